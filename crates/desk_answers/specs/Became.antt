@@ -16,7 +16,7 @@ IsExplained None (Made reply) = Unit {0}
 IsExplained None (Unsaid refused) = ⊥
 IsExplained None Ticked = ⊥
 IsExplained None Nothing = ⊥
-IsExplained None (Broke stream full) = Unit {0}
+IsExplained None (Broke stream) = Unit {0}
 IsExplained None (Stopped stream) = Unit {0}
 IsExplained None Gone = Unit {0}
 
@@ -26,7 +26,7 @@ CanBeShown (Made reply) = IsShown reply
 CanBeShown (Unsaid refused) = Unit {0}
 CanBeShown Ticked = Unit {0}
 CanBeShown Nothing = Unit {0}
-CanBeShown (Broke stream full) = IsUtf8 stream
+CanBeShown (Broke stream) = IsUtf8 stream
 CanBeShown (Stopped stream) = IsUtf8 stream
 CanBeShown Gone = Unit {0}
 
@@ -36,7 +36,7 @@ is_dropped (Made reply) = is_done reply
 is_dropped (Unsaid refused) = not refused
 is_dropped Ticked = false
 is_dropped Nothing = false
-is_dropped (Broke stream full) = false
+is_dropped (Broke stream) = false
 is_dropped (Stopped stream) = false
 is_dropped Gone = false
 

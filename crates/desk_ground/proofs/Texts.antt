@@ -5,7 +5,7 @@ use lib.Utf8.{encode}
 use Rattle.std.proofs.lemmas.Str.{IsUtf8-from_is_utf8}
 use Rattle.js_base.specs.declared.out.ApiError.{ApiError}
 use Rattle.js_base.specs.declared.memory.NoMemory.{NoMemory}
-use Rattle.js_model.specs.Refusals.{no_stream, store_fault, log_full, stream_stopped}
+use Rattle.js_model.specs.Refusals.{no_stream, store_fault, stream_stopped}
 use Rattle.desk_ground.specs.declared.reason.Reason.{Reason}
 use Rattle.desk_ground.specs.declared.reason.Reason.TheVariants as reasons
 use Rattle.desk_ground.specs.Reasons.{error_of}
@@ -14,7 +14,6 @@ error_utf8 : (reason : Reason) → IsUtf8 (error_of reason).text
 unfolding is_utf8 chars encode
 error_utf8 reasons.NoStream = IsUtf8-from_is_utf8 no_stream.text refl
 error_utf8 reasons.StoreFault = IsUtf8-from_is_utf8 store_fault.text refl
-error_utf8 reasons.LogFull = IsUtf8-from_is_utf8 log_full.text refl
 error_utf8 reasons.StreamStopped = IsUtf8-from_is_utf8 stream_stopped.text refl
 
 pub refusal_utf8 : (reason : Reason) (told : Result ApiError NoMemory) → IfOk told (λ (e : ApiError). e ≡ error_of reason) → IfOk told (λ (e : ApiError). IsUtf8 e.text)

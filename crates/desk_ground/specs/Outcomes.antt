@@ -20,7 +20,7 @@ IsThere (Made reply) = Unit {0}
 IsThere (Unsaid refused) = Unit {0}
 IsThere Ticked = Unit {0}
 IsThere Nothing = Unit {0}
-IsThere (Broke stream full) = Unit {0}
+IsThere (Broke stream) = Unit {0}
 IsThere (Stopped stream) = Unit {0}
 IsThere Gone = ⊥
 

@@ -53,7 +53,7 @@ fn end_told<G: Ground>(
         Became::Unsaid { refused: _ } => unreachable!(),
         Became::Ticked => unreachable!(),
         Became::Nothing => unreachable!(),
-        Became::Broke { stream: _, full } => refuse_for(ground, call, to, Reason::broken(*full)),
+        Became::Broke { stream: _ } => refuse_for(ground, call, to, Reason::StoreFault),
         Became::Stopped { stream: _ } => refuse_for(ground, call, to, Reason::StreamStopped),
         Became::Gone => refuse_for(ground, call, to, Reason::NoStream),
     }

@@ -187,7 +187,7 @@ module _ (at : PlaceAt) where
   last_of (Unsaid refused) last = Some at
   last_of Ticked last = Some at
   last_of Nothing last = last
-  last_of (Broke stream full) last = Some at
+  last_of (Broke stream) last = Some at
   last_of (Stopped stream) last = last
   last_of Gone last = last
 
@@ -197,7 +197,7 @@ module _ (at : PlaceAt) where
 
   last_prepared : (first : List DeskEntry) (last : Option PlaceAt) → Prepares at first → last_after first last ≡ last
   last_prepared first last (inl none) = ap (λ (entries : List DeskEntry). last_after entries last) none
-  last_prepared first last (inr h) = ap (λ (entries : List DeskEntry). last_after entries last) h.2
+  last_prepared first last (inr h) = ap (λ (entries : List DeskEntry). last_after entries last) h.3
 
   last_held : (entries : List DeskEntry) (hold : Hold) (last : Option PlaceAt) → entries ≡ Held hold ∷ [] → hold.at ≡ at → last_after entries last ≡ Some at
   last_held entries hold last is here = ap (λ (es : List DeskEntry). last_after es last) is ∙ ap (λ (a : PlaceAt). Some a) here
@@ -216,15 +216,15 @@ module _ (at : PlaceAt) where
   last_holds (Unsaid refused) what now ready fault entries last h = last_held entries h.0 last h.3 h.2.at_is
   last_holds Ticked what now ready fault entries last h = last_held entries h.0 last h.1 h.2.at_is
   last_holds Nothing what now ready fault entries last h = last_unmade fault entries last h.1
-  last_holds (Broke stream full) what now ready fault entries last h = last_held entries h.0 last h.1 h.2.at_is
+  last_holds (Broke stream) what now ready fault entries last h = last_held entries h.0 last h.1 h.2.at_is
   last_holds (Stopped stream) what now ready fault entries last h = ap (λ (es : List DeskEntry). last_after es last) h.1
   last_holds Gone what now ready fault entries last h = ap (λ (es : List DeskEntry). last_after es last) h.1
 
   -- the entries of the hold lead the desk from the one scene to the other
-  pub held_alone : (holds : Image → State → Type 0) (seat : ℕ) (what : What) (now : ℕ) (outcome : Outcome) (scene : Scene) (old new : Seen) (router : Router)
-      → slice_get scene.world.places at.place ≡ Some old.place → HoldsOn IsRoute never at holds seat what now outcome old new scene.world.router router
+  pub held_alone : (holds : Image → State → Type 0) (outgrows : State → What → Type 0) (seat : ℕ) (what : What) (now : ℕ) (outcome : Outcome) (scene : Scene) (old new : Seen) (router : Router)
+      → slice_get scene.world.places at.place ≡ Some old.place → HoldsOn IsRoute never at holds outgrows seat what now outcome old new scene.world.router router
       → Makes (Leads SoloStep) (Holds at what now outcome) scene (with_place scene at.place (on new.place router) (last_of outcome.became scene.cursor.last))
-  held_alone holds seat what now outcome scene old new router there h =
+  held_alone holds outgrows seat what now outcome scene old new router there h =
       let last : last_after h.entries scene.cursor.last ≡ last_of outcome.became scene.cursor.last =
       ap (λ (es : List DeskEntry). last_after es scene.cursor.last) h.holds.entries_are
       ∙ last_behind h.holds.first h.holds.more scene.cursor.last
@@ -239,8 +239,8 @@ module _ (at : PlaceAt) where
       }
 
   -- by the same entries
-  pub held_entries : (holds : Image → State → Type 0) (seat : ℕ) (what : What) (now : ℕ) (outcome : Outcome) (scene : Scene) (old new : Seen) (router : Router)
-      → (there : slice_get scene.world.places at.place ≡ Some old.place) (h : HoldsOn IsRoute never at holds seat what now outcome old new scene.world.router router)
-      → (held_alone holds seat what now outcome scene old new router there h).entries ≡ h.entries
+  pub held_entries : (holds : Image → State → Type 0) (outgrows : State → What → Type 0) (seat : ℕ) (what : What) (now : ℕ) (outcome : Outcome) (scene : Scene) (old new : Seen) (router : Router)
+      → (there : slice_get scene.world.places at.place ≡ Some old.place) (h : HoldsOn IsRoute never at holds outgrows seat what now outcome old new scene.world.router router)
+      → (held_alone holds outgrows seat what now outcome scene old new router there h).entries ≡ h.entries
   unfolding held_alone
-  held_entries holds seat what now outcome scene old new router there h = refl
+  held_entries holds outgrows seat what now outcome scene old new router there h = refl

@@ -89,30 +89,29 @@ unless_true : (b : Bool) → not b ≡ true → b ≡ false
 unless_true true e = absurd (let not_both : false ≡ true = e in cc)
 unless_true false e = refl
 
-number_withheld : (what : What) (refused : Bool) (at : PlaceAt) (now : ℕ) (old new : PlaceIn) (before after : List Out) → IsNumbered old.state
-    → WithholdsStep refused (event_at at what) now old new before after → NumbersDropped what (Unsaid refused) at
-number_withheld (DropStream to) refused at now old new before after numbered h = λ dropped.
+number_withheld : (outgrows : State → What → Type 0) (what : What) (refused : Bool) (at : PlaceAt) (now : ℕ) (old new : PlaceIn) (before after : List Out) → IsNumbered old.state
+    → WithholdsStep outgrows refused (event_at at what) now old new before after → NumbersDropped what (Unsaid refused) at
+number_withheld outgrows (DropStream to) refused at now old new before after numbered h = λ dropped.
     subst (λ (n : ℕ). n < 2 ^ 62) (sym h.made.step.event.kept)
     (unrefused_live at to now h.made.step.event.room old.state new.state h.reply h.outs numbered h.made.step.event.answers
     (sym h.refused_is ∙ unless_true refused dropped))
-number_withheld what refused at now old new before after numbered h = tt
+number_withheld outgrows what refused at now old new before after numbered h = tt
 
-number_failed : (what : What) (fault : PlaceFault) (stream : Bytes) (at : PlaceAt) (now : ℕ) (old new : PlaceIn) (before after : List Out) → IsNumbered old.state
-    → EndsStep (Err fault) (event_at at what) now old new before after → NumbersDropped what (failed_by fault stream).became at
-number_failed what (places.NoMemory left.Nothing) stream at now old new before after numbered h = number_undone what _ at refl
-number_failed what (places.NoMemory left.Ticked) stream at now old new before after numbered h = number_undone what _ at refl
-number_failed what (places.NoMemory (left.Unsaid refused)) stream at now old new before after numbered h = number_withheld what refused at now old new before after numbered h
-number_failed what places.StoreFault stream at now old new before after numbered h = number_undone what _ at refl
-number_failed what places.Full stream at now old new before after numbered h = number_undone what _ at refl
-number_failed what (places.Stopped count) stream at now old new before after numbered h = number_undone what _ at refl
-number_failed what (places.Gone kept) stream at now old new before after numbered h = number_undone what _ at refl
-number_failed what (places.Worn refused) stream at now old new before after numbered h = number_withheld what refused at now old new before after numbered h.withholds
+number_failed : (outgrows : State → What → Type 0) (what : What) (fault : PlaceFault) (stream : Bytes) (at : PlaceAt) (now : ℕ) (old new : PlaceIn) (before after : List Out) → IsNumbered old.state
+    → EndsStep outgrows (Err fault) (event_at at what) now old new before after → NumbersDropped what (failed_by fault stream).became at
+number_failed outgrows what (places.NoMemory left.Nothing) stream at now old new before after numbered h = number_undone what _ at refl
+number_failed outgrows what (places.NoMemory left.Ticked) stream at now old new before after numbered h = number_undone what _ at refl
+number_failed outgrows what (places.NoMemory (left.Unsaid refused)) stream at now old new before after numbered h = number_withheld outgrows what refused at now old new before after numbered h
+number_failed outgrows what places.StoreFault stream at now old new before after numbered h = number_undone what _ at refl
+number_failed outgrows what (places.Stopped count) stream at now old new before after numbered h = number_undone what _ at refl
+number_failed outgrows what (places.Gone kept) stream at now old new before after numbered h = number_undone what _ at refl
+number_failed outgrows what (places.Worn refused) stream at now old new before after numbered h = number_withheld outgrows what refused at now old new before after numbered h.withholds
 
 -- what a failed step came to
-pub number_told : (what : What) (fault : PlaceFault) (stream : Bytes) (at : PlaceAt) (now : ℕ) (old new : PlaceIn) (outs : List Out) (outcome : Outcome) → IsNumbered old.state
-    → outcome ≡ failed_by fault stream → EndsStep (Err fault) (event_at at what) now old new [] outs → NumbersDropped what outcome.became at
-number_told what fault stream at now old new outs outcome numbered is h =
-    subst (λ (o : Outcome). NumbersDropped what o.became at) (sym is) (number_failed what fault stream at now old new [] outs numbered h)
+pub number_told : (outgrows : State → What → Type 0) (what : What) (fault : PlaceFault) (stream : Bytes) (at : PlaceAt) (now : ℕ) (old new : PlaceIn) (outs : List Out) (outcome : Outcome) → IsNumbered old.state
+    → outcome ≡ failed_by fault stream → EndsStep outgrows (Err fault) (event_at at what) now old new [] outs → NumbersDropped what outcome.became at
+number_told outgrows what fault stream at now old new outs outcome numbered is h =
+    subst (λ (o : Outcome). NumbersDropped what o.became at) (sym is) (number_failed outgrows what fault stream at now old new [] outs numbered h)
 
 -- ---- an incarnation that no place keeps
 

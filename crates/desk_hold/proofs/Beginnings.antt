@@ -179,6 +179,6 @@ outlasts_nothing holds s kept = outlasts_call holds s s kept kept commits [] ref
   where
     commits : MayCommit holds s s
     commits = record {
-      time = record { faults = omega arith; moments = omega arith; generations = omega arith; goes_on = λ t image le left. inl left };
+      time = record { faults = omega arith; refusals = omega arith; moments = omega arith; generations = omega arith; goes_on = λ t image le left. inl left };
       base = λ b held. inl held;
     }

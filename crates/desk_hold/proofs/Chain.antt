@@ -1,6 +1,5 @@
 -- The deliveries of a hold are a part of its place's run.
-use Rattle.std.proofs.Common.{◌≡◌, ◌≤◌, ◌<◌, ◌+◌, ◌++◌, ℕ, Bool, true, false, List, [], ◌∷◌, length, append-nil, Option, refl, sym, ap, subst, ◌∙◌, arith}
-use Rattle.std.proofs.lemmas.Bool.{ltb-true, lt-ltb}
+use Rattle.std.proofs.Common.{◌≡◌, ◌≤◌, ◌+◌, ◌++◌, ℕ, Bool, true, false, List, [], ◌∷◌, length, append-nil, Option, refl, sym, ap, subst, ◌∙◌, arith}
 use Rattle.js_base.specs.Bytes.{Bytes}
 use Rattle.js_base.specs.declared.out.Out.{Out}
 use Rattle.js_base.proofs.Causes.{rose_before}
@@ -13,7 +12,7 @@ use Rattle.js_model.specs.declared.entry.PlaceEntry.{PlaceEntry}
 use Rattle.js_model.specs.declared.entry.PlaceEntry.TheVariants.{Step, Deliver, Broken}
 use Rattle.js_model.specs.declared.entry.Call.TheVariants.{Step as StepOf, Deliver as DeliverOf}
 use Rattle.js_model.specs.PlaceStates.{PlaceIn, VolumeAt}
-use Rattle.js_model.specs.Runs.{IsStep, RunFrom, is_few, new_messages, total_of}
+use Rattle.js_model.specs.Runs.{IsStep, RunFrom, new_messages, total_of}
 use Rattle.js_api.specs.Holding.{delivery_broke}
 use Rattle.js_api.specs.Outputs.{answer_of, outs_from, said}
 use Rattle.js_api.specs.Worlds.{IsLater, Stops, is_broken}
@@ -26,13 +25,14 @@ use Rattle.desk_hold.specs.Deliveries.{Led}
 pub later_then : (a b c : VolumeAt) → IsLater a b → IsLater b c → IsLater a c
 later_then a b c h k = record {
   faults = omega (arith, h.faults, k.faults);
+  refusals = omega (arith, h.refusals, k.refusals);
   moments = omega (arith, h.moments, k.moments);
   generations = omega (arith, h.generations, k.generations);
 }
 
-pub stops_since : (broken full : Bool) (a b c : VolumeAt) (stopped : Option ℕ) → IsLater a b → Stops broken full b c stopped → Stops broken full a c stopped
-stops_since true full a b c stopped later h = (h.0, λ failed. rose_before a.faults b.faults c.faults later.faults (h.1 failed))
-stops_since false full a b c stopped later h = h
+pub stops_since : (broken : Bool) (a b c : VolumeAt) (stopped : Option ℕ) → IsLater a b → Stops broken b c stopped → Stops broken a c stopped
+stops_since true a b c stopped later h = (h.0, rose_before a.faults b.faults c.faults later.faults h.1)
+stops_since false a b c stopped later h = h
 
 -- ---- the run
 
@@ -41,17 +41,11 @@ pub record RunsFrom (count : ℕ) (old new : PlaceIn) (entries : List PlaceEntry
   pub run : RunFrom count old.state entries new.state
   pub stored : new.stored ≤ total_of count old.state entries new.state run
 
-few_before : (n m : ℕ) → n ≤ m → is_few m ≡ true → is_few n ≡ true
-few_before n m le few =
-    let below : m < 65533 = ltb-true m 65533 few in
-    lt-ltb n 65533 (omega (arith, le, below))
-
-step_from : (n m : ℕ) (old : State) (e : Event) (now : ℕ) (reply : Reply) (outs : List Out) (new : State) → n ≤ m → IsStep n old e now reply outs new → IsStep m old e now reply outs new
-step_from n m old e now reply outs new le step = record {
+step_from : (n m : ℕ) (old : State) (e : Event) (now : ℕ) (reply : Reply) (outs : List Out) (new : State) → IsStep n old e now reply outs new → IsStep m old e now reply outs new
+step_from n m old e now reply outs new step = record {
   event = step.event;
   proper = step.proper;
   moment = step.moment;
-  free = λ few. step.free (few_before n m le few);
 }
 
 pub runs_from : (entries : List PlaceEntry) (old : PlaceIn) (sent : List Out) (new : PlaceIn) (count : ℕ) → old.stored ≤ count → Led old entries sent new → RunsFrom count old new entries
@@ -63,10 +57,10 @@ runs_from (Deliver seat now listening d outs ∷ more) old sent new count le (mi
 runs_from (Step seat event now reply outs unsaid ∷ more) old sent new count le (made, tick, silent, goes, sent_is, none) =
     subst (λ (entries : List PlaceEntry). RunsFrom count old new (Step seat event now reply outs unsaid ∷ entries)) (sym none)
     (record {
-      run = (new.state, step_from old.stored count old.state event now reply outs new.state le made.step, refl);
+      run = (new.state, step_from old.stored count old.state event now reply outs new.state made.step, refl);
       stored = omega (arith, le, made.stored);
     })
-runs_from (Broken seat now (DeliverOf listening d) ∷ more) old sent new count le (outs, full, step, stops, sent_is, none) =
+runs_from (Broken seat now (DeliverOf listening d) ∷ more) old sent new count le (outs, step, stops, sent_is, none) =
     subst (λ (entries : List PlaceEntry). RunsFrom count old new (Broken seat now (DeliverOf listening d) ∷ entries)) (sym none)
     (record { run = (outs, step.step); stored = omega (arith, le, step.stored) })
 runs_from (Broken seat now (StepOf event) ∷ more) old sent new count le h = absurd h
@@ -85,7 +79,7 @@ none_firm (Step seat event now reply outs unsaid ∷ more) old sent new (made, t
       (λ firm. subst (λ (what : What). IsFirmStep old.state what reply new.state) tick firm.1),
       refl,
     )
-none_firm (Broken seat now (DeliverOf listening d) ∷ more) old sent new (outs, full, step, stops, is, none) =
+none_firm (Broken seat now (DeliverOf listening d) ∷ more) old sent new (outs, step, stops, is, none) =
     subst (λ (entries : List PlaceEntry). Chain ⊥ old.state (Broken seat now (DeliverOf listening d) ∷ entries) new.state) (sym none)
     (new.state, (old.stored, (outs, step.step)), (λ no. no), refl)
 none_firm (Broken seat now (StepOf event) ∷ more) old sent new h = absurd h
@@ -107,8 +101,8 @@ sent_is (Deliver seat now listening d outs ∷ entry ∷ more) stream old sent n
 sent_is (Step seat event now reply outs unsaid ∷ []) stream old sent new (made, tick, silent, goes, is, none) =
     is ∙ sym (append-nil outs) ∙ ap (λ (os : List Out). outs ++ os) (sym (tick_answer stream event reply unsaid tick))
 sent_is (Step seat event now reply outs unsaid ∷ entry ∷ more) stream old sent new (made, tick, silent, goes, is, none) = let no : ⊥ = cc in absurd no
-sent_is (Broken seat now (DeliverOf listening d) ∷ []) stream old sent new (outs, full, step, stops, is, none) = is
-sent_is (Broken seat now (DeliverOf listening d) ∷ entry ∷ more) stream old sent new (outs, full, step, stops, is, none) = let no : ⊥ = cc in absurd no
+sent_is (Broken seat now (DeliverOf listening d) ∷ []) stream old sent new (outs, step, stops, is, none) = is
+sent_is (Broken seat now (DeliverOf listening d) ∷ entry ∷ more) stream old sent new (outs, step, stops, is, none) = let no : ⊥ = cc in absurd no
 sent_is (Broken seat now (StepOf event) ∷ more) stream old sent new h = absurd h
 
 -- ---- whether they broke
@@ -118,18 +112,17 @@ led_later [] old sent new h = h.0.later
 led_later (Deliver seat now listening d outs ∷ more) old sent new (mid, rest, step, goes, is, next) =
     later_then old.volume mid.volume new.volume step.later (led_later more mid rest new next)
 led_later (Step seat event now reply outs unsaid ∷ more) old sent new (made, tick, silent, goes, is, none) = made.later
-led_later (Broken seat now (DeliverOf listening d) ∷ more) old sent new (outs, full, step, stops, is, none) = step.later
+led_later (Broken seat now (DeliverOf listening d) ∷ more) old sent new (outs, step, stops, is, none) = step.later
 led_later (Broken seat now (StepOf event) ∷ more) old sent new h = absurd h
 
 pub led_stops : (entries : List PlaceEntry) (old : PlaceIn) (sent : List Out) (new : PlaceIn) → Led old entries sent new
-    → (full : Bool) × Stops (is_broken entries) full old.volume new.volume new.stopped
-led_stops [] old sent new h = (false, (h.0.stopped, refl))
+    → Stops (is_broken entries) old.volume new.volume new.stopped
+led_stops [] old sent new h = h.0.stopped
 led_stops (Deliver seat now listening d outs ∷ more) old sent new (mid, rest, step, goes, is, next) =
-    let behind = led_stops more mid rest new next in
-    (behind.0, stops_since (is_broken more) behind.0 old.volume mid.volume new.volume new.stopped step.later behind.1)
+    stops_since (is_broken more) old.volume mid.volume new.volume new.stopped step.later (led_stops more mid rest new next)
 led_stops (Step seat event now reply outs unsaid ∷ more) old sent new (made, tick, silent, goes, is, none) =
-    (false, subst (λ (entries : List PlaceEntry). Stops (is_broken entries) false old.volume new.volume new.stopped) (sym none) (goes, refl))
-led_stops (Broken seat now (DeliverOf listening d) ∷ more) old sent new (outs, full, step, stops, is, none) = (full, stops)
+    subst (λ (entries : List PlaceEntry). Stops (is_broken entries) old.volume new.volume new.stopped) (sym none) goes
+led_stops (Broken seat now (DeliverOf listening d) ∷ more) old sent new (outs, step, stops, is, none) = stops
 led_stops (Broken seat now (StepOf event) ∷ more) old sent new h = absurd h
 
 -- the two words for it say the same

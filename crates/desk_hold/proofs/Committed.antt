@@ -15,7 +15,7 @@ use Rattle.model_laws.proofs.Changed.{changes_test}
 use Rattle.effects.specs.declared.effect.Effect.{Effect}
 use Rattle.place_engine.specs.Stepping.{Image, IsKept, MayKeepBase, MayPutOff, Seen, Steps}
 use Rattle.place_engine.specs.declared.faults.PlaceFault.{PlaceFault}
-use Rattle.place_engine.specs.declared.faults.PlaceFault.TheVariants.{NoMemory, StoreFault, Full, Stopped, Gone, Worn}
+use Rattle.place_engine.specs.declared.faults.PlaceFault.TheVariants.{NoMemory, StoreFault, Stopped, Gone, Worn}
 use Rattle.place_engine.specs.declared.faults.Left.TheVariants.{Nothing, Ticked, Unsaid}
 use Rattle.desk_hold.specs.Crashes.{CommitsStep, IsEntry, IsLeftOf, MayCommit, Outlasts}
 use Rattle.desk_hold.proofs.Beginnings.{all_left, either_left, one_entry, outlasts_firm}
@@ -95,7 +95,6 @@ module _ (holds : Image → State → Type 0) (event : Event) (now : ℕ) (old n
       by (NoMemory Ticked) h = base_of h.ends.may
       by (NoMemory (Unsaid refused)) h = λ b is. inl (h.ends.hides.put_off.base b is)
       by StoreFault h = h.ends.base
-      by Full h = λ b is. inl (h.ends.base b is)
       by (Stopped count) h = λ b is. inl (h.ends.rests.base b is)
       by (Gone kept) h = λ b is. inl (h.ends.rests.base b is)
       by (Worn refused) h = λ b is. inl (h.ends.withholds.hides.put_off.base b is)

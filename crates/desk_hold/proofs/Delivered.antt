@@ -26,7 +26,7 @@ use Rattle.desk_hold.proofs.Chain.{none_firm, sent_is}
 use Rattle.desk_hold.proofs.Room.{more_room, none_room, room_for_one}
 
 same_volume : (p : PlaceIn) → IsLater p.volume p.volume
-same_volume p = record { faults = omega arith; moments = omega arith; generations = omega arith }
+same_volume p = record { faults = omega arith; refusals = omega arith; moments = omega arith; generations = omega arith }
 
 module _ (holds : Image → State → Type 0) where
   -- So many deliveries were made and told so far. What goes on from here, goes on from the beginning

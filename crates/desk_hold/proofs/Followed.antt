@@ -29,7 +29,7 @@ no_first [] = tt
 no_first (c ∷ cs) = tt
 
 same_volume : (p : PlaceIn) → IsLater p.volume p.volume
-same_volume p = record { faults = omega arith; moments = omega arith; generations = omega arith }
+same_volume p = record { faults = omega arith; refusals = omega arith; moments = omega arith; generations = omega arith }
 
 pauses : (p : PlaceIn) → p.stopped ≡ None → Led p [] [] p
 pauses p goes = (record { going = goes; state = refl; stored = refl; stopped = goes; later = same_volume p }, refl)

@@ -4,6 +4,7 @@ use Rattle.std.specs.Prelude.{◌⊎◌, ◌<◌, ◌≤◌, ◌+◌, ◌++◌, 
 use Rattle.std.specs.List.{AllByRecursion}
 use Rattle.std.specs.Option.{option_or}
 use Rattle.js_base.specs.Bytes.{Bytes}
+use Rattle.js_base.specs.Causes.{Rose}
 use Rattle.js_base.specs.declared.out.Out.{Out}
 use Rattle.js_model.specs.declared.stream.State.{State}
 use Rattle.js_model.specs.declared.consumer.Consumer.{Consumer}
@@ -11,14 +12,15 @@ use Rattle.js_model.specs.declared.event.Event.{Event}
 use Rattle.js_model.specs.declared.event.What.{What}
 use Rattle.js_model.specs.declared.event.What.TheVariants.{Tick}
 use Rattle.js_model.specs.declared.reply.Reply.{Reply}
-use Rattle.js_model.specs.declared.reply.Reply.TheVariants.{Silent}
+use Rattle.js_model.specs.declared.reply.Reply.TheVariants.{Silent, Refused}
 use Rattle.js_model.specs.declared.entry.PlaceEntry.{PlaceEntry}
 use Rattle.js_model.specs.declared.entry.PlaceEntry.TheVariants.{Step, Deliver, Broken}
 use Rattle.js_model.specs.declared.entry.Call.TheVariants.{Step as StepOf, Deliver as DeliverOf}
 use Rattle.js_model.specs.declared.desk.PlaceAt.{PlaceAt}
 use Rattle.js_model.specs.Events.{kept_incarnation}
 use Rattle.js_model.specs.PlaceStates.{PlaceIn, VolumeAt}
-use Rattle.js_model.specs.Runs.{new_messages}
+use Rattle.js_model.specs.Refusals.{no_room}
+use Rattle.js_model.specs.Runs.{is_few, new_messages}
 use Rattle.js_model.specs.Ready.{some_ready}
 use Rattle.js_model.specs.Router.{RouteCall, RouteTold}
 use Rattle.model_laws.specs.Legal.{seat_of}
@@ -30,7 +32,8 @@ use Rattle.js_api.specs.declared.outcome.Outcome.{Outcome}
 use Rattle.js_api.specs.Entries.{Reading, Sending, Sent, Short, Unsent, Hold, entries_in, Held, Stirred, Halted, Missed}
 use Rattle.js_api.specs.Holding.{AreAsked, AreDeliveries, AreFirstReadings, AreReadings, Explains, HoldsBy, MayEnd, bytes_of, delivery_broke, event_at, is_ready_at, listening_of, most_bytes, most_deliveries, push_consumers, step}
 use Rattle.js_api.specs.Outputs.{answer_of, name_behind, outs_of, said, stream_name}
-use Rattle.js_api.specs.Worlds.{IsHeld, IsLater, Stops, is_broken}
+use Rattle.js_api.specs.Rooms.{IsOutgrown}
+use Rattle.js_api.specs.Worlds.{IsHeld, IsLater, IsStirred, Stops, is_broken}
 use Rattle.js_model.specs.Firm.{IsFirm}
 use Rattle.place_engine.specs.Stepping.{Image, IsKept, Seen}
 use Rattle.place_engine.specs.declared.faults.PlaceFault.{PlaceFault}
@@ -45,7 +48,7 @@ use Rattle.desk_hold.specs.Following.{AskedSo, Follows, IsFault, LeftSo}
 use Rattle.desk_hold.specs.OnePlace.{HoldsOn, IsBy, IsHeldOn, on}
 use Rattle.desk_hold.specs.Outcomes.{SendsFollowed, SendsMade, SendsThem, absent_by, failed_by, fault_of, quietly, shortly}
 use Rattle.desk_hold.specs.Ports.{Sends}
-use Rattle.desk_hold.specs.Steps.{BreaksStep, EndsStep, IsMade, IsUndoneStep, WithholdsStep}
+use Rattle.desk_hold.specs.Steps.{BreaksStep, EndsStep, FindsOther, IsMade, IsUndoneStep, StopsUnmade, WithholdsStep}
 use Rattle.desk_hold.proofs.Beginnings.{one_entry, outlasts_call, outlasts_if, outlasts_more}
 use Rattle.desk_hold.proofs.Chain.{led_later, led_stops, none_firm, runs_from, sent_is, stops_since}
 use Rattle.desk_hold.proofs.Committed.{outlasts_step}
@@ -56,15 +59,16 @@ use Rattle.desk_hold.proofs.Stepped.{same_place}
 
 -- a hold whose step led from the one place to the next, and whose deliveries led on from there
 abbrev hold_of : ℕ → PlaceAt → What → ℕ → Reply → List Out → Bool → List Reading → List PlaceEntry → Bool → Sending → PlaceIn → PlaceIn → PlaceIn → Hold
-hold_of seat at what now reply outs unsaid readings entries full sending old mid new = record {
+hold_of seat at what now reply outs unsaid readings entries outgrown sending old mid new = record {
   at = at;
   before = old.state;
+  stored = old.stored;
   steps = step seat at what now reply outs unsaid;
   between = mid.state;
   readings = readings;
   deliveries = entries;
   after = new.state;
-  full = full;
+  outgrows = outgrown;
   sending = sending;
   volume_before = old.volume;
   volume_between = mid.volume;
@@ -72,27 +76,44 @@ hold_of seat at what now reply outs unsaid readings entries full sending old mid
 }
 
 -- one without deliveries
-abbrev hold_alone : ℕ → PlaceAt → What → ℕ → Reply → List Out → Bool → Sending → PlaceIn → PlaceIn → Hold
-hold_alone seat at what now reply outs unsaid sending old new = hold_of seat at what now reply outs unsaid [] [] false sending old new new
+abbrev hold_alone : ℕ → PlaceAt → What → ℕ → Reply → List Out → Bool → Bool → Sending → PlaceIn → PlaceIn → Hold
+hold_alone seat at what now reply outs unsaid outgrown sending old new = hold_of seat at what now reply outs unsaid [] [] outgrown sending old new new
+
+-- what a reply that tells of no room is caused by
+abbrev IsCaused : Reply → Bool → PlaceIn → PlaceIn → Type 0
+IsCaused reply outgrown old new = reply ≡ Refused no_room → Rose old.volume.refusals new.volume.refusals ⊎ ((is_few old.stored ≡ false) ⊎ (outgrown ≡ true))
+
+one_short : {A B : Type 0} → (A → B) → A ⊎ ⊥ → B
+one_short f (inl a) = f a
+one_short f (inr none) = absurd none
+
+-- silence tells of none
+silent_caused : (old new : PlaceIn) → IsCaused Silent false old new
+silent_caused old new refused = let no : ⊥ = cc in absurd no
+
+none_outgrown : {A : Type 0} → false ≡ true → A
+none_outgrown e = let no : ⊥ = cc in absurd no
 
 same_volume : (p : PlaceIn) → IsLater p.volume p.volume
-same_volume p = record { faults = omega arith; moments = omega arith; generations = omega arith }
+same_volume p = record { faults = omega arith; refusals = omega arith; moments = omega arith; generations = omega arith }
 
-held_steps : (seat : ℕ) (at : PlaceAt) (what : What) (now : ℕ) (reply : Reply) (outs sent : List Out) (unsaid : Bool) (readings : List Reading) (entries : List PlaceEntry) (full : Bool) (sending : Sending) (old mid new : PlaceIn)
-    → IsMade (event_at at what) now reply outs old mid → Led mid entries sent new → Stops (is_broken entries) full mid.volume new.volume new.stopped
-    → IsHeld (hold_of seat at what now reply outs unsaid readings entries full sending old mid new) old new
-held_steps seat at what now reply outs sent unsaid readings entries full sending old mid new made led stops =
+held_steps : (seat : ℕ) (at : PlaceAt) (what : What) (now : ℕ) (reply : Reply) (outs sent : List Out) (unsaid : Bool) (readings : List Reading) (entries : List PlaceEntry) (outgrown : Bool) (sending : Sending) (old mid new : PlaceIn)
+    → IsMade (event_at at what) now reply outs old mid → IsCaused reply outgrown old mid → Led mid entries sent new → Stops (is_broken entries) mid.volume new.volume new.stopped
+    → IsHeld (hold_of seat at what now reply outs unsaid readings entries outgrown sending old mid new) old new
+held_steps seat at what now reply outs sent unsaid readings entries outgrown sending old mid new made cause led stops =
     let total : ℕ = old.stored + length (new_messages old.state mid.state) in
     let runs = runs_from entries mid sent new total made.stored led in
     record {
       going = made.going;
       was = refl;
+      counted = refl;
       steps = (mid.state, made.step, refl);
+      short = one_short cause;
       deliveries = runs.run;
       ends = λ broken. let no : ⊥ = cc in absurd no;
       is_state = refl;
       stored = runs.stored;
-      stops = stops_since (is_broken entries) full old.volume mid.volume new.volume new.stopped made.later stops;
+      stops = stops_since (is_broken entries) old.volume mid.volume new.volume new.stopped made.later stops;
       volume_was = refl;
       volume_is = refl;
       before_between = made.later;
@@ -103,19 +124,20 @@ held_steps seat at what now reply outs sent unsaid readings entries full sending
 pauses : (p : PlaceIn) → p.stopped ≡ None → Led p [] [] p
 pauses p goes = (record { going = goes; state = refl; stored = refl; stopped = goes; later = same_volume p }, refl)
 
-held_step : (seat : ℕ) (at : PlaceAt) (what : What) (now : ℕ) (reply : Reply) (outs : List Out) (unsaid : Bool) (sending : Sending) (old new : PlaceIn) → IsMade (event_at at what) now reply outs old new
-    → new.stopped ≡ None → IsHeld (hold_alone seat at what now reply outs unsaid sending old new) old new
-held_step seat at what now reply outs unsaid sending old new made goes = held_steps seat at what now reply outs [] unsaid [] [] false sending old new new made (pauses new goes) (goes, refl)
+held_step : (seat : ℕ) (at : PlaceAt) (what : What) (now : ℕ) (reply : Reply) (outs : List Out) (unsaid outgrown : Bool) (sending : Sending) (old new : PlaceIn) → IsMade (event_at at what) now reply outs old new
+    → IsCaused reply outgrown old new → new.stopped ≡ None → IsHeld (hold_alone seat at what now reply outs unsaid outgrown sending old new) old new
+held_step seat at what now reply outs unsaid outgrown sending old new made cause goes =
+    held_steps seat at what now reply outs [] unsaid [] [] outgrown sending old new new made cause (pauses new goes) goes
 
 -- ---- what it sends
 
 -- what the step and then the deliveries send is what the hold sends
-all_sent : (seat : ℕ) (at : PlaceAt) (what : What) (now : ℕ) (reply : Reply) (outs sent : List Out) (unsaid : Bool) (readings : List Reading) (entries : List PlaceEntry) (full : Bool) (sending : Sending) (old mid new : PlaceIn)
+all_sent : (seat : ℕ) (at : PlaceAt) (what : What) (now : ℕ) (reply : Reply) (outs sent : List Out) (unsaid : Bool) (readings : List Reading) (entries : List PlaceEntry) (outgrown : Bool) (sending : Sending) (old mid new : PlaceIn)
     → Led mid entries sent new → (outs ++ said unsaid (answer_of (stream_name old.state) what reply)) ++ sent
-    ≡ outs_of old.state (entries_in (hold_of seat at what now reply outs unsaid readings entries full sending old mid new))
-all_sent seat at what now reply outs sent unsaid readings [] full sending old mid new led =
+    ≡ outs_of old.state (entries_in (hold_of seat at what now reply outs unsaid readings entries outgrown sending old mid new))
+all_sent seat at what now reply outs sent unsaid readings [] outgrown sending old mid new led =
     let own : List Out = outs ++ said unsaid (answer_of (stream_name old.state) what reply) in ap (λ (os : List Out). own ++ os) led.1 ∙ append-nil own
-all_sent seat at what now reply outs sent unsaid readings (entry ∷ more) full sending old mid new led =
+all_sent seat at what now reply outs sent unsaid readings (entry ∷ more) outgrown sending old mid new led =
     let own : List Out = outs ++ said unsaid (answer_of (stream_name old.state) what reply) in
     ap (λ (os : List Out). own ++ os) (sent_is (entry ∷ more) (name_behind (stream_name old.state) (Step seat (event_at at what) now reply outs unsaid)) mid sent new led)
 
@@ -190,24 +212,24 @@ ends_or (Some f) next ready now hold new outs is h = tt
 
 -- ---- what a hold came to
 
-module _ {R : Type 0} (routes : R → RouteCall → RouteTold → R → Type 0) (worn : R → ℕ → R → Type 0) (holds : Image → State → Type 0) (at : PlaceAt) (seat : ℕ) (what : What) (now : ℕ) where
-  pub as_told : (outcome told : Outcome) (old new : Seen) (r s : R) → outcome ≡ told → HoldsOn routes worn at holds seat what now told old new r s
-      → HoldsOn routes worn at holds seat what now outcome old new r s
-  as_told outcome told old new r s e h = subst (λ (o : Outcome). HoldsOn routes worn at holds seat what now o old new r s) (sym e) h
+module _ {R : Type 0} (routes : R → RouteCall → RouteTold → R → Type 0) (worn : R → ℕ → R → Type 0) (holds : Image → State → Type 0) (outgrows : State → What → Type 0) (at : PlaceAt) (seat : ℕ) (what : What) (now : ℕ) where
+  pub as_told : (outcome told : Outcome) (old new : Seen) (r s : R) → outcome ≡ told → HoldsOn routes worn at holds outgrows seat what now told old new r s
+      → HoldsOn routes worn at holds outgrows seat what now outcome old new r s
+  as_told outcome told old new r s e h = subst (λ (o : Outcome). HoldsOn routes worn at holds outgrows seat what now o old new r s) (sym e) h
 
   -- what ended an event, which is this one, with outputs that were none before
   pub ends_at : (result : Result MadeStep PlaceFault) (event : Event) (old new : PlaceIn) (before outs : List Out) → event ≡ event_at at what → before ≡ []
-      → EndsStep result event now old new before outs → EndsStep result (event_at at what) now old new [] outs
+      → EndsStep outgrows result event now old new before outs → EndsStep outgrows result (event_at at what) now old new [] outs
   ends_at result event old new before outs same none h =
-      subst (λ (os : List Out). EndsStep result (event_at at what) now old new os outs) none
-      (subst (λ (e : Event). EndsStep result e now old new before outs) same h)
+      subst (λ (os : List Out). EndsStep outgrows result (event_at at what) now old new os outs) none
+      (subst (λ (e : Event). EndsStep outgrows result e now old new before outs) same h)
 
   -- what a crash leaves of a step and of deliveries behind it
-  outlasts_hold : (old mid new : Seen) (reply : Reply) (outs sent : List Out) (unsaid : Bool) (readings : List Reading) (entries : List PlaceEntry) (full : Bool) (sending : Sending)
+  outlasts_hold : (old mid new : Seen) (reply : Reply) (outs sent : List Out) (unsaid : Bool) (readings : List Reading) (entries : List PlaceEntry) (outgrown : Bool) (sending : Sending)
       → Outlasts holds (λ t. t < mid.place.volume.moment) (step seat at what now reply outs unsaid) old mid → Outlasts holds Never entries mid new → Led mid.place entries sent new.place
-      → let hold : Hold = hold_of seat at what now reply outs unsaid readings entries full sending old.place mid.place new.place in Outlasts holds (IsEarlyIn (Held hold ∷ [])) (made_by (Held hold ∷ [])) old new
-  outlasts_hold old mid new reply outs sent unsaid readings entries full sending h k led =
-      let hold : Hold = hold_of seat at what now reply outs unsaid readings entries full sending old.place mid.place new.place in
+      → let hold : Hold = hold_of seat at what now reply outs unsaid readings entries outgrown sending old.place mid.place new.place in Outlasts holds (IsEarlyIn (Held hold ∷ [])) (made_by (Held hold ∷ [])) old new
+  outlasts_hold old mid new reply outs sent unsaid readings entries outgrown sending h k led =
+      let hold : Hold = hold_of seat at what now reply outs unsaid readings entries outgrown sending old.place mid.place new.place in
       let steps : List PlaceEntry = step seat at what now reply outs unsaid in
       subst (λ (es : List PlaceEntry). Outlasts holds (IsEarlyIn (Held hold ∷ [])) es old new) (sym (append-nil (entries_in hold)))
       (outlasts_more holds (IsEarlyIn (Held hold ∷ [])) steps entries old mid new
@@ -226,14 +248,15 @@ module _ {R : Type 0} (routes : R → RouteCall → RouteTold → R → Type 0) 
       (outlasts_call holds old new kept keeps commits (e ∷ []) (one_entry ⊥ e old.place.state new.place.state made firm)))
 
   -- one hold is all that there is
-  held_as : (outcome : Outcome) (hold : Hold) (old new : Seen) (r s : R) → IsBy seat (Held hold) → HoldsBy outcome.became at what now outcome.ready outcome.fault (Held hold ∷ [])
+  held_as : (outcome : Outcome) (hold : Hold) (old new : Seen) (r s : R) → IsBy seat (Held hold) → IsOutgrown outgrows (Held hold) → HoldsBy outcome.became at what now outcome.ready outcome.fault (Held hold ∷ [])
       → IsHeldOn routes worn at hold (on old.place r) (on new.place s) → Outlasts holds (IsEarlyIn (Held hold ∷ [])) (made_by (Held hold ∷ [])) old new
-      → HoldsOn routes worn at holds seat what now outcome old new r s
-  held_as outcome hold old new r s made_by_seat came is lasts = record {
+      → HoldsOn routes worn at holds outgrows seat what now outcome old new r s
+  held_as outcome hold old new r s made_by_seat told came is lasts = record {
     entries = Held hold ∷ [];
     holds = record { first = []; more = Held hold ∷ []; entries_are = refl; prepares = inl refl; holds = came };
     led = (on new.place s, is, refl);
     by = (made_by_seat, tt);
+    outgrown = (told, tt);
     outlasts = lasts;
   }
 
@@ -244,22 +267,22 @@ module _ {R : Type 0} (routes : R → RouteCall → RouteTold → R → Type 0) 
 
   -- a step that was made and told is on the volume, if it is confirmed
   outlasts_told : (made : MadeStep) (old new : Seen) (outs : List Out) → IsKept holds old → IsKept holds new → CommitsStep holds (Ok made) (event_at at what) old new
-      → (h : EndsStep (Ok made) (event_at at what) now old.place new.place [] outs) → Outlasts holds (λ t. t < new.place.volume.moment) (step seat at what now made.reply h.outs made.unsaid) old new
+      → (h : EndsStep outgrows (Ok made) (event_at at what) now old.place new.place [] outs) → Outlasts holds (λ t. t < new.place.volume.moment) (step seat at what now made.reply h.outs made.unsaid) old new
   outlasts_told made old new outs kept keeps c h = outlasts_step holds old new kept keeps what made.reply c.commits c.firm
       (Step seat (event_at at what) now made.reply h.outs made.unsaid) (made_step old new made.reply h.outs made.unsaid h.made) (λ firm. firm.1)
 
   -- who listens was read, consumers were served, and all was sent
   made_heard : (made : MadeStep) (old mid new : Seen) (outs all : List Out) (r t s : R) (ready : Bool) (fault : Option DeskFault) (sending : Sending)
       → IsKept holds old → IsKept holds mid → CommitsStep holds (Ok made) (event_at at what) old mid
-      → EndsStep (Ok made) (event_at at what) now old.place mid.place [] outs → Follows routes worn seat at now holds (Heard ready fault) mid new r t outs all → Sends routes worn t all sending s
-      → HoldsOn routes worn at holds seat what now (record { became = Made made.reply; ready = ready; fault = option_or fault (fault_of sending made.unsaid) }) old new r s
+      → EndsStep outgrows (Ok made) (event_at at what) now old.place mid.place [] outs → Follows routes worn seat at now holds (Heard ready fault) mid new r t outs all → Sends routes worn t all sending s
+      → HoldsOn routes worn at holds outgrows seat what now (record { became = Made made.reply; ready = ready; fault = option_or fault (fault_of sending made.unsaid) }) old new r s
   made_heard made old mid new outs all r t s ready fault sending kept keeps c h f sends =
       let next : Option DeskFault = fault_of sending made.unsaid in
       let stops = led_stops f.entries mid.place f.sent new.place f.led in
-      let hold : Hold = hold_of seat at what now made.reply h.outs made.unsaid f.readings f.entries stops.0 sending old.place mid.place new.place in
+      let hold : Hold = hold_of seat at what now made.reply h.outs made.unsaid f.readings f.entries h.outgrown sending old.place mid.place new.place in
       let whole : all ≡ outs_of hold.before (entries_in hold) =
-      f.added ∙ ap (λ (os : List Out). os ++ f.sent) h.added ∙ all_sent seat at what now made.reply h.outs f.sent made.unsaid f.readings f.entries stops.0 sending old.place mid.place new.place f.led in
-      held_as (record { became = Made made.reply; ready = ready; fault = option_or fault next }) hold old new r s (refl, deliveries_by seat at now (listening_of f.readings) fault f.entries f.followed.are) (
+      f.added ∙ ap (λ (os : List Out). os ++ f.sent) h.added ∙ all_sent seat at what now made.reply h.outs f.sent made.unsaid f.readings f.entries h.outgrown sending old.place mid.place new.place f.led in
+      held_as (record { became = Made made.reply; ready = ready; fault = option_or fault next }) hold old new r s (refl, deliveries_by seat at now (listening_of f.readings) fault f.entries f.followed.are) (λ yes. inl (h.short.log yes)) (
         hold,
         refl,
         record {
@@ -281,22 +304,22 @@ module _ {R : Type 0} (routes : R → RouteCall → RouteTold → R → Type 0) 
       )
       (record {
         at_is = refl;
-        held = held_steps seat at what now made.reply h.outs f.sent made.unsaid f.readings f.entries stops.0 sending old.place mid.place new.place h.made f.led stops.1;
+        held = held_steps seat at what now made.reply h.outs f.sent made.unsaid f.readings f.entries h.outgrown sending old.place mid.place new.place h.made h.short.cause f.led stops;
         told = t;
         heard = f.followed.heard;
         sent = subst (λ (os : List Out). Sends routes worn t os sending s) whole sends;
       })
-      (outlasts_hold old mid new made.reply h.outs f.sent made.unsaid f.readings f.entries stops.0 sending (outlasts_told made old mid outs kept keeps c h) f.outlasts f.led)
+      (outlasts_hold old mid new made.reply h.outs f.sent made.unsaid f.readings f.entries h.outgrown sending (outlasts_told made old mid outs kept keeps c h) f.outlasts f.led)
 
   -- no turn of the router was left before who listens was told
   made_unheard : (made : MadeStep) (old mid new : Seen) (outs all : List Out) (r t : R) (number : ℕ)
       → IsKept holds old → IsKept holds mid → CommitsStep holds (Ok made) (event_at at what) old mid
-      → EndsStep (Ok made) (event_at at what) now old.place mid.place [] outs → Follows routes worn seat at now holds (Unheard number) mid new r t outs all
-      → HoldsOn routes worn at holds seat what now (record { became = Made made.reply; ready = false; fault = Some (faults.Worn number) }) old new r t
+      → EndsStep outgrows (Ok made) (event_at at what) now old.place mid.place [] outs → Follows routes worn seat at now holds (Unheard number) mid new r t outs all
+      → HoldsOn routes worn at holds outgrows seat what now (record { became = Made made.reply; ready = false; fault = Some (faults.Worn number) }) old new r t
   made_unheard made old mid new outs all r t number kept keeps c h f =
       let stops = led_stops f.entries mid.place f.sent new.place f.led in
-      let hold : Hold = hold_of seat at what now made.reply h.outs made.unsaid f.readings f.entries stops.0 (Unsent number) old.place mid.place new.place in
-      held_as (record { became = Made made.reply; ready = false; fault = Some (faults.Worn number) }) hold old new r t (refl, subst (λ (es : List PlaceEntry). AllByRecursion (λ (e : PlaceEntry). seat_of e ≡ seat) es) (sym f.followed.none) tt) (
+      let hold : Hold = hold_of seat at what now made.reply h.outs made.unsaid f.readings f.entries h.outgrown (Unsent number) old.place mid.place new.place in
+      held_as (record { became = Made made.reply; ready = false; fault = Some (faults.Worn number) }) hold old new r t (refl, subst (λ (es : List PlaceEntry). AllByRecursion (λ (e : PlaceEntry). seat_of e ≡ seat) es) (sym f.followed.none) tt) (λ yes. inl (h.short.log yes)) (
         hold,
         refl,
         record {
@@ -318,7 +341,7 @@ module _ {R : Type 0} (routes : R → RouteCall → RouteTold → R → Type 0) 
       )
       (record {
         at_is = refl;
-        held = held_steps seat at what now made.reply h.outs f.sent made.unsaid f.readings f.entries stops.0 (Unsent number) old.place mid.place new.place h.made f.led stops.1;
+        held = held_steps seat at what now made.reply h.outs f.sent made.unsaid f.readings f.entries h.outgrown (Unsent number) old.place mid.place new.place h.made h.short.cause f.led stops;
         told = f.followed.mid;
         heard = f.followed.heard;
         sent = inr (record {
@@ -333,7 +356,7 @@ module _ {R : Type 0} (routes : R → RouteCall → RouteTold → R → Type 0) 
           sending_is = refl;
         });
       })
-      (outlasts_hold old mid new made.reply h.outs f.sent made.unsaid f.readings f.entries stops.0 (Unsent number) (outlasts_told made old mid outs kept keeps c h) f.outlasts f.led)
+      (outlasts_hold old mid new made.reply h.outs f.sent made.unsaid f.readings f.entries h.outgrown (Unsent number) (outlasts_told made old mid outs kept keeps c h) f.outlasts f.led)
 
   same_outcome : (outcome : Outcome) (became : Became) (ready : Bool) (fault : Option DeskFault) → outcome.became ≡ became → outcome.ready ≡ ready → outcome.fault ≡ fault
       → outcome ≡ record { became = became; ready = ready; fault = fault }
@@ -344,8 +367,8 @@ module _ {R : Type 0} (routes : R → RouteCall → RouteTold → R → Type 0) 
 
   pub held_made : (following : Following) (outcome : Outcome) (made : MadeStep) (old mid new : Seen) (outs all : List Out) (r t s : R)
       → IsKept holds old → IsKept holds mid → CommitsStep holds (Ok made) (event_at at what) old mid
-      → EndsStep (Ok made) (event_at at what) now old.place mid.place [] outs → outcome.became ≡ Made made.reply → Follows routes worn seat at now holds following mid new r t outs all
-      → SendsFollowed routes worn following made.unsaid outcome all t s → HoldsOn routes worn at holds seat what now outcome old new r s
+      → EndsStep outgrows (Ok made) (event_at at what) now old.place mid.place [] outs → outcome.became ≡ Made made.reply → Follows routes worn seat at now holds following mid new r t outs all
+      → SendsFollowed routes worn following made.unsaid outcome all t s → HoldsOn routes worn at holds outgrows seat what now outcome old new r s
   held_made (Heard ready fault) outcome made old mid new outs all r t s kept keeps c h became f (sending, sends, ready_is, fault_is) =
       as_told outcome (record { became = Made made.reply; ready = ready; fault = option_or fault (fault_of sending made.unsaid) }) old new r s
       (same_outcome outcome (Made made.reply) ready (option_or fault (fault_of sending made.unsaid)) became ready_is fault_is)
@@ -353,7 +376,7 @@ module _ {R : Type 0} (routes : R → RouteCall → RouteTold → R → Type 0) 
   held_made (Unheard number) outcome made old mid new outs all r t s kept keeps c h became f (ready_is, fault_is, same) =
       as_told outcome (record { became = Made made.reply; ready = false; fault = Some (faults.Worn number) }) old new r s
       (same_outcome outcome (Made made.reply) false (Some (faults.Worn number)) became ready_is fault_is)
-      (subst (λ (x : R). HoldsOn routes worn at holds seat what now (record { became = Made made.reply; ready = false; fault = Some (faults.Worn number) }) old new r x) (sym same)
+      (subst (λ (x : R). HoldsOn routes worn at holds outgrows seat what now (record { became = Made made.reply; ready = false; fault = Some (faults.Worn number) }) old new r x) (sym same)
       (made_unheard made old mid new outs all r t number kept keeps c h f))
 
   -- ---- nothing was made
@@ -363,18 +386,19 @@ module _ {R : Type 0} (routes : R → RouteCall → RouteTold → R → Type 0) 
     all_same = ap (λ (p : PlaceIn). on p s) same ∙ ap (λ (x : R). on old.place x) port
 
     -- memory ran out before anything
-    pub held_nothing : HoldsOn routes worn at holds seat what now (shortly Nothing) old new r s
+    pub held_nothing : HoldsOn routes worn at holds outgrows seat what now (shortly Nothing) old new r s
     held_nothing = record {
       entries = [];
       holds = record { first = []; more = []; entries_are = refl; prepares = inl refl; holds = (refl, refl) };
       led = sym all_same;
       by = tt;
+      outgrown = tt;
       outlasts = lasts;
     }
 
     -- the place is stopped
     pub held_stopped : (stream : Bytes) (count : ℕ) → stream ≡ stream_name old.place.state → old.place.stopped ≡ Some count
-        → HoldsOn routes worn at holds seat what now (quietly (Stopped stream)) old new r s
+        → HoldsOn routes worn at holds outgrows seat what now (quietly (Stopped stream)) old new r s
     held_stopped stream count name stopped = record {
       entries = Halted at old.place.state ∷ [];
       holds = record {
@@ -386,11 +410,12 @@ module _ {R : Type 0} (routes : R → RouteCall → RouteTold → R → Type 0) 
       };
       led = (on new.place s, record { at_is = refl; count = count; stopped = stopped; state_is = refl; same = all_same }, refl);
       by = (tt, tt);
+      outgrown = (tt, tt);
       outlasts = lasts;
     }
 
     -- it keeps another incarnation
-    pub held_gone : old.place.stopped ≡ None → kept_incarnation old.place.state ≢ at.incarnation → HoldsOn routes worn at holds seat what now (quietly Gone) old new r s
+    pub held_gone : old.place.stopped ≡ None → kept_incarnation old.place.state ≢ at.incarnation → HoldsOn routes worn at holds outgrows seat what now (quietly Gone) old new r s
     held_gone going other = record {
       entries = Missed at (kept_incarnation old.place.state) ∷ [];
       holds = record {
@@ -402,52 +427,126 @@ module _ {R : Type 0} (routes : R → RouteCall → RouteTold → R → Type 0) 
       };
       led = (on new.place s, record { at_is = refl; going = going; kept_is = refl; other = other; same = all_same }, refl);
       by = (tt, tt);
+      outgrown = (tt, tt);
       outlasts = lasts;
     }
 
     -- no place keeps this incarnation
     pub held_absent : (stream : Bytes) → stream ≡ stream_name old.place.state → kept_incarnation old.place.state ≢ at.incarnation
-        → HoldsOn routes worn at holds seat what now (absent_by old.place.stopped stream) old new r s
+        → HoldsOn routes worn at holds outgrows seat what now (absent_by old.place.stopped stream) old new r s
     held_absent stream name other = by old.place.stopped refl
       where
-        by : (stopped : Option ℕ) → old.place.stopped ≡ stopped → HoldsOn routes worn at holds seat what now (absent_by stopped stream) old new r s
+        by : (stopped : Option ℕ) → old.place.stopped ≡ stopped → HoldsOn routes worn at holds outgrows seat what now (absent_by stopped stream) old new r s
         by None is = held_gone is other
         by (Some count) is = held_stopped stream count name is
 
   -- nothing was made there, and the volume was called unless the place is stopped
-  undone : (old new : Seen) (r s : R) → IsUndoneStep old.place new.place → Outlasts holds Never [] old new → s ≡ r → HoldsOn routes worn at holds seat what now (shortly Nothing) old new r s
+  undone : (old new : Seen) (r s : R) → IsUndoneStep old.place new.place → Outlasts holds Never [] old new → s ≡ r → HoldsOn routes worn at holds outgrows seat what now (shortly Nothing) old new r s
   undone old new r s h lasts same = by old.place.stopped refl
     where
-      by : (stopped : Option ℕ) → old.place.stopped ≡ stopped → HoldsOn routes worn at holds seat what now (shortly Nothing) old new r s
+      by : (stopped : Option ℕ) → old.place.stopped ≡ stopped → HoldsOn routes worn at holds outgrows seat what now (shortly Nothing) old new r s
       by None is = record {
         entries = Stirred at old.place.volume new.place.volume false ∷ [];
         holds = record {
           first = Stirred at old.place.volume new.place.volume false ∷ [];
           more = [];
           entries_are = refl;
-          prepares = inr (old.place.volume, new.place.volume, refl);
+          prepares = inr (old.place.volume, new.place.volume, false, refl);
           holds = (refl, refl);
         };
         led = (
           on new.place s,
           record {
             at_is = refl;
-            stirred = record { going = is; state = h.state; stored = h.stored; stops = (h.stopped ∙ is, refl); volume_was = refl; volume_is = refl; later = h.later };
+            stirred = record { going = is; state = h.state; stored = h.stored; stops = h.stopped ∙ is; volume_was = refl; volume_is = refl; later = h.later };
             port = same;
           },
           refl,
         );
         by = (tt, tt);
+        outgrown = (tt, tt);
         outlasts = lasts;
       }
       by (Some count) is = held_nothing old new r s (same_place old.place new.place h.state h.stored h.stopped (h.volume count is)) same lasts
 
+  -- the volume failed as room was made, and the place is stopped
+  module _ (old new : Seen) (r s : R) (h : StopsUnmade old.place new.place) (lasts : Outlasts holds Never [] old new) where
+    stirred_failed : IsStirred old.place.volume new.place.volume true old.place new.place
+    stirred_failed = record { going = h.going; state = h.state; stored = h.stored; stops = h.stops; volume_was = refl; volume_is = refl; later = h.later }
+
+    -- memory ran out behind that
+    stopped_short : s ≡ r → HoldsOn routes worn at holds outgrows seat what now (shortly Nothing) old new r s
+    stopped_short same = record {
+      entries = Stirred at old.place.volume new.place.volume true ∷ [];
+      holds = record {
+        first = Stirred at old.place.volume new.place.volume true ∷ [];
+        more = [];
+        entries_are = refl;
+        prepares = inr (old.place.volume, new.place.volume, true, refl);
+        holds = (refl, refl);
+      };
+      led = (on new.place s, record { at_is = refl; stirred = stirred_failed; port = same }, refl);
+      by = (tt, tt);
+      outgrown = (tt, tt);
+      outlasts = lasts;
+    }
+
+    -- it was found so behind that
+    stopped_unmade : (stream : Bytes) → stream ≡ stream_name old.place.state → s ≡ r → HoldsOn routes worn at holds outgrows seat what now (quietly (Stopped stream)) old new r s
+    stopped_unmade stream name same = record {
+      entries = Stirred at old.place.volume new.place.volume true ∷ Halted at new.place.state ∷ [];
+      holds = record {
+        first = Stirred at old.place.volume new.place.volume true ∷ [];
+        more = Halted at new.place.state ∷ [];
+        entries_are = refl;
+        prepares = inr (old.place.volume, new.place.volume, true, refl);
+        holds = (new.place.state, refl, name ∙ ap stream_name (sym h.state), (refl, refl));
+      };
+      led = (
+        on new.place s,
+        record { at_is = refl; stirred = stirred_failed; port = same },
+        (on new.place s, record { at_is = refl; count = new.place.volume.faults; stopped = h.stops.0; state_is = refl; same = refl }, refl),
+      );
+      by = (tt, (tt, tt));
+      outgrown = (tt, (tt, tt));
+      outlasts = lasts;
+    }
+
+  -- it keeps another incarnation, and its volume may have been called
+  gone : (old new : Seen) (r s : R) → FindsOther (event_at at what) old.place new.place → Outlasts holds Never [] old new → s ≡ r
+      → HoldsOn routes worn at holds outgrows seat what now (quietly Gone) old new r s
+  gone old new r s h lasts same =
+      let kept : ℕ = kept_incarnation new.place.state in
+      let goes : new.place.stopped ≡ None = h.undone.stopped ∙ h.going in
+      record {
+        entries = Stirred at old.place.volume new.place.volume false ∷ Missed at kept ∷ [];
+        holds = record {
+          first = Stirred at old.place.volume new.place.volume false ∷ [];
+          more = Missed at kept ∷ [];
+          entries_are = refl;
+          prepares = inr (old.place.volume, new.place.volume, false, refl);
+          holds = (kept, refl, (refl, refl));
+        };
+        led = (
+          on new.place s,
+          record {
+            at_is = refl;
+            stirred = record { going = h.going; state = h.undone.state; stored = h.undone.stored; stops = goes; volume_was = refl; volume_is = refl; later = h.undone.later };
+            port = same;
+          },
+          (on new.place s, record { at_is = refl; going = goes; kept_is = refl; other = λ is. h.other (ap kept_incarnation (sym h.undone.state) ∙ is); same = refl }, refl),
+        );
+        by = (tt, (tt, tt));
+        outgrown = (tt, (tt, tt));
+        outlasts = lasts;
+      }
+
   -- time passed, and no more
   ticked : (old new : Seen) (outs : List Out) (r s : R) → IsKept holds old → IsKept holds new → MayCommit holds old new
-      → EndsStep (Err (places.NoMemory left.Ticked)) (event_at at what) now old.place new.place [] outs
-      → SendsMade routes worn (places.NoMemory left.Ticked) outs r s → HoldsOn routes worn at holds seat what now (shortly Ticked) old new r s
+      → EndsStep outgrows (Err (places.NoMemory left.Ticked)) (event_at at what) now old.place new.place [] outs
+      → SendsMade routes worn (places.NoMemory left.Ticked) outs r s → HoldsOn routes worn at holds outgrows seat what now (shortly Ticked) old new r s
   ticked old new outs r s kept keeps commits h sends =
-      let hold : Hold = hold_alone seat at Tick now Silent h.outs false sends.sending old.place new.place in
+      let hold : Hold = hold_alone seat at Tick now Silent h.outs false false sends.sending old.place new.place in
       record {
         entries = Held hold ∷ [];
         holds = record {
@@ -481,7 +580,7 @@ module _ {R : Type 0} (routes : R → RouteCall → RouteTold → R → Type 0) 
           on new.place s,
           record {
             at_is = refl;
-            held = held_step seat at Tick now Silent h.outs false sends.sending old.place new.place h.made h.goes;
+            held = held_step seat at Tick now Silent h.outs false false sends.sending old.place new.place h.made (silent_caused old.place new.place) h.goes;
             told = r;
             heard = refl;
             sent = subst (λ (os : List Out). Sends routes worn r os sends.sending s) (h.added ∙ sym (append-nil h.outs)) sends.sends;
@@ -489,17 +588,18 @@ module _ {R : Type 0} (routes : R → RouteCall → RouteTold → R → Type 0) 
           refl,
         );
         by = ((refl, tt), tt);
+        outgrown = (none_outgrown, tt);
         outlasts = outlasts_alone hold old new (Step seat (event_at at Tick) now Silent h.outs false) refl refl kept keeps commits
             (old.place.stored, (new.place.state, h.made.step, refl)) (λ firm. firm.1);
       }
 
   -- it was made, and its reply is withheld
   withheld : (refused : Bool) (fault : DeskFault) (old new : Seen) (outs : List Out) (r s : R) → IsKept holds old → IsKept holds new → MayCommit holds old new
-      → (h : WithholdsStep refused (event_at at what) now old.place new.place [] outs) → (sends : SendsThem routes worn outs r s)
-      → Explains (Some fault) true (hold_alone seat at what now h.reply h.outs true sends.sending old.place new.place)
-      → HoldsOn routes worn at holds seat what now (record { became = Unsaid refused; ready = false; fault = Some fault }) old new r s
+      → (h : WithholdsStep outgrows refused (event_at at what) now old.place new.place [] outs) → (sends : SendsThem routes worn outs r s)
+      → Explains (Some fault) true (hold_alone seat at what now h.reply h.outs true h.outgrown sends.sending old.place new.place)
+      → HoldsOn routes worn at holds outgrows seat what now (record { became = Unsaid refused; ready = false; fault = Some fault }) old new r s
   withheld refused fault old new outs r s kept keeps commits h sends explained =
-      let hold : Hold = hold_alone seat at what now h.reply h.outs true sends.sending old.place new.place in
+      let hold : Hold = hold_alone seat at what now h.reply h.outs true h.outgrown sends.sending old.place new.place in
       record {
         entries = Held hold ∷ [];
         holds = record {
@@ -535,7 +635,7 @@ module _ {R : Type 0} (routes : R → RouteCall → RouteTold → R → Type 0) 
           on new.place s,
           record {
             at_is = refl;
-            held = held_step seat at what now h.reply h.outs true sends.sending old.place new.place h.made h.goes;
+            held = held_step seat at what now h.reply h.outs true h.outgrown sends.sending old.place new.place h.made h.short.cause h.goes;
             told = r;
             heard = refl;
             sent = subst (λ (os : List Out). Sends routes worn r os sends.sending s) (h.added ∙ sym (append-nil h.outs)) sends.sends;
@@ -543,15 +643,16 @@ module _ {R : Type 0} (routes : R → RouteCall → RouteTold → R → Type 0) 
           refl,
         );
         by = ((refl, tt), tt);
+        outgrown = ((λ yes. inl (h.short.log yes)), tt);
         outlasts = outlasts_alone hold old new (Step seat (event_at at what) now h.reply h.outs true) refl refl kept keeps commits
             (made_step old new h.reply h.outs true h.made) (λ firm. let no : ⊥ = cc in no);
       }
 
-  -- the volume failed, or its log was full
-  broke : (full : Bool) (stream : Bytes) (old new : Seen) (r s : R) → IsKept holds old → IsKept holds new → MayCommit holds old new → stream ≡ stream_name old.place.state
-      → BreaksStep full (event_at at what) now old.place new.place → s ≡ r → HoldsOn routes worn at holds seat what now (quietly (Broke stream full)) old new r s
-  broke full stream old new r s kept keeps commits name h same =
-      let hold : Hold = record (hold_alone seat at what now h.reply [] false Sent old.place new.place) { steps = Broken seat now (StepOf (event_at at what)) ∷ []; full = full } in
+  -- the volume failed
+  broke : (stream : Bytes) (old new : Seen) (r s : R) → IsKept holds old → IsKept holds new → MayCommit holds old new → stream ≡ stream_name old.place.state
+      → BreaksStep (event_at at what) now old.place new.place → s ≡ r → HoldsOn routes worn at holds outgrows seat what now (quietly (Broke stream)) old new r s
+  broke stream old new r s kept keeps commits name h same =
+      let hold : Hold = record (hold_alone seat at what now h.reply [] false false Sent old.place new.place) { steps = Broken seat now (StepOf (event_at at what)) ∷ [] } in
       record {
         entries = Held hold ∷ [];
         holds = record {
@@ -570,7 +671,6 @@ module _ {R : Type 0} (routes : R → RouteCall → RouteTold → R → Type 0) 
               deliveries = refl;
               sending = refl;
               stream_is = name;
-              full_is = refl;
             },
             (refl, refl),
           );
@@ -582,7 +682,9 @@ module _ {R : Type 0} (routes : R → RouteCall → RouteTold → R → Type 0) 
             held = record {
               going = h.made.going;
               was = refl;
+              counted = refl;
               steps = (h.reply, h.outs, h.made.step);
+              short = λ no. absurd no;
               deliveries = refl;
               ends = λ broken. refl;
               is_state = refl;
@@ -600,28 +702,32 @@ module _ {R : Type 0} (routes : R → RouteCall → RouteTold → R → Type 0) 
           refl,
         );
         by = ((refl, tt), tt);
+        outgrown = (none_outgrown, tt);
         outlasts = outlasts_alone hold old new (Broken seat now (StepOf (event_at at what))) refl refl kept keeps commits
             (old.place.stored, (h.reply, h.outs, h.made.step)) (λ firm. firm);
       }
 
   failed : (fault : PlaceFault) (stream : Bytes) (old new : Seen) (outs : List Out) (r s : R) → IsKept holds old → IsKept holds new → MayCommit holds old new → stream ≡ stream_name old.place.state
-      → EndsStep (Err fault) (event_at at what) now old.place new.place [] outs → SendsMade routes worn fault outs r s → HoldsOn routes worn at holds seat what now (failed_by fault stream) old new r s
-  failed (places.NoMemory left.Nothing) stream old new outs r s kept keeps commits name h sends =
+      → EndsStep outgrows (Err fault) (event_at at what) now old.place new.place [] outs → SendsMade routes worn fault outs r s → HoldsOn routes worn at holds outgrows seat what now (failed_by fault stream) old new r s
+  failed (places.NoMemory left.Nothing) stream old new outs r s kept keeps commits name (inl h) sends =
       undone old new r s h (outlasts_call holds old new kept keeps commits [] (sym h.state)) sends
+  failed (places.NoMemory left.Nothing) stream old new outs r s kept keeps commits name (inr h) sends =
+      stopped_short old new r s h (outlasts_call holds old new kept keeps commits [] (sym h.state)) sends
   failed (places.NoMemory left.Ticked) stream old new outs r s kept keeps commits name h sends = ticked old new outs r s kept keeps commits h sends
   failed (places.NoMemory (left.Unsaid refused)) stream old new outs r s kept keeps commits name h sends = withheld refused faults.NoMemory old new outs r s kept keeps commits h sends tt
-  failed places.StoreFault stream old new outs r s kept keeps commits name h sends = broke false stream old new r s kept keeps commits name h sends
-  failed places.Full stream old new outs r s kept keeps commits name h sends = broke true stream old new r s kept keeps commits name h sends
-  failed (places.Stopped count) stream old new outs r s kept keeps commits name h sends =
+  failed places.StoreFault stream old new outs r s kept keeps commits name h sends = broke stream old new r s kept keeps commits name h sends
+  failed (places.Stopped count) stream old new outs r s kept keeps commits name (inr h) sends =
+      stopped_unmade old new r s h (outlasts_call holds old new kept keeps commits [] (sym h.state)) stream name sends
+  failed (places.Stopped count) stream old new outs r s kept keeps commits name (inl h) sends =
       held_stopped old new r s h.same sends (outlasts_call holds old new kept keeps commits [] (ap (λ (p : PlaceIn). p.state) (sym h.same))) stream count name h.stopped
   failed (places.Gone other) stream old new outs r s kept keeps commits name h sends =
-      held_gone old new r s h.same sends (outlasts_call holds old new kept keeps commits [] (ap (λ (p : PlaceIn). p.state) (sym h.same))) h.going h.other
+      gone old new r s h (outlasts_call holds old new kept keeps commits [] (sym h.undone.state)) sends
   failed (places.Worn refused) stream old new outs r s kept keeps commits name h sends =
       withheld refused (faults.Worn (2 ^ 62 - 1)) old new outs r s kept keeps commits h.withholds sends (inr ((sym h.last, refl), inl refl))
 
   -- it failed
   pub held_failed : (outcome : Outcome) (fault : PlaceFault) (stream : Bytes) (old new : Seen) (outs : List Out) (r s : R) → IsKept holds old → IsKept holds new
       → CommitsStep holds (Err fault) (event_at at what) old new → outcome ≡ failed_by fault stream → stream ≡ stream_name old.place.state
-      → EndsStep (Err fault) (event_at at what) now old.place new.place [] outs → SendsMade routes worn fault outs r s → HoldsOn routes worn at holds seat what now outcome old new r s
+      → EndsStep outgrows (Err fault) (event_at at what) now old.place new.place [] outs → SendsMade routes worn fault outs r s → HoldsOn routes worn at holds outgrows seat what now outcome old new r s
   held_failed outcome fault stream old new outs r s kept keeps c is name h sends =
       as_told outcome (failed_by fault stream) old new r s is (failed fault stream old new outs r s kept keeps c.commits name h sends)

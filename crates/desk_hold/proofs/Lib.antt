@@ -1,6 +1,7 @@
 pub mod Refused
 pub mod Ticks
 pub mod Stepped
+pub mod Readied
 pub mod Sent
 pub mod Beginnings
 pub mod Committed

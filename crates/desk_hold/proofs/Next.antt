@@ -1,5 +1,5 @@
 -- What a place promises of a delivery is one of the deliveries of a hold, or their end.
-use Rattle.std.proofs.Common.{inl, ◌≡◌, ◌≤◌, ◌<◌, ◌^◌, ◌++◌, ◌&&◌, ℕ, Bool, true, false, List, [], ◌∷◌, append-nil, Option, None, Some, Result, Ok, Err, refl, sym, subst, ◌∙◌, arith, IsTrue}
+use Rattle.std.proofs.Common.{inl, ◌≡◌, ◌≤◌, ◌<◌, ◌^◌, ◌++◌, ◌&&◌, ℕ, true, false, List, [], ◌∷◌, append-nil, Option, None, Some, Result, Ok, Err, refl, sym, subst, ◌∙◌, arith, IsTrue}
 use Rattle.std.specs.Prelude.{nat_le, sum_by}
 use Rattle.std.proofs.lemmas.Bool.{and_from, le-leb}
 use Rattle.js_base.specs.Bytes.{Bytes}
@@ -19,20 +19,19 @@ use Rattle.js_model.specs.Ready.{some_ready}
 use Rattle.js_api.specs.Holding.{bytes_of, most_bytes}
 use Rattle.js_api.specs.Worlds.{IsLater, Stops}
 use Rattle.place_engine.specs.Delivering.{Delivers, Makes, tick_at}
-use Rattle.place_engine.specs.Stepping.{Elapses, Image, IsKept, MayKeepBase, Seen, Steps}
+use Rattle.place_engine.specs.Stepping.{Elapses, Image, IsKept, MayKeepBase, Seen}
 use Rattle.place_engine.specs.declared.faults.PlaceFault.{PlaceFault}
-use Rattle.place_engine.specs.declared.faults.PlaceFault.TheVariants.{NoMemory, StoreFault, Full, Stopped, Gone, Worn}
+use Rattle.place_engine.specs.declared.faults.PlaceFault.TheVariants.{NoMemory, StoreFault, Stopped, Gone, Worn}
 use Rattle.place_engine.specs.declared.faults.Left.TheVariants.{Nothing, Ticked, Unsaid}
 use Rattle.desk_hold.specs.declared.delivering.Ending.{Ending}
 use Rattle.desk_hold.specs.declared.delivering.Ending.TheVariants.{Quiet, Broke, Short, WornOut}
 use Rattle.desk_hold.specs.Crashes.{MayCommit, Never, Outlasts}
 use Rattle.desk_hold.specs.Deliveries.{DeliversOn, EndsSo, GoesOn, IsSentAt, Led, ending_after, ending_by}
-use Rattle.desk_hold.specs.Steps.{EndsStep}
 use Rattle.desk_hold.proofs.Committed.{base_of}
 use Rattle.desk_hold.proofs.Beginnings.{outlasts_call}
 use Rattle.desk_hold.proofs.Chain.{none_firm}
 use Rattle.desk_hold.proofs.Room.{none_room, one_room}
-use Rattle.desk_hold.proofs.Stepped.{failed_step}
+use Rattle.desk_hold.proofs.Stepped.{ticked_step}
 
 -- a tick for what the place keeps is an event as a reader gives it
 tick_proper : (state : State) → kept_incarnation state ≤ 2 ^ 62 → IsTrue (is_proper (tick_at state))
@@ -43,10 +42,10 @@ module _ (holds : Image → State → Type 0) (now : ℕ) (listening : List Byte
     (kept : IsKept holds old) (keeps : IsKept holds new) (small : kept_incarnation old.place.state ≤ 2 ^ 62) (going : old.place.stopped ≡ None)
     (before after : List Out) (room : sum_by bytes_of before < most_bytes) where
   later : Elapses holds old new → IsLater old.place.volume new.place.volume
-  later h = record { faults = h.faults; moments = h.moments; generations = h.generations }
+  later h = record { faults = h.faults; refusals = h.refusals; moments = h.moments; generations = h.generations }
 
   same_volume : (p : PlaceIn) → IsLater p.volume p.volume
-  same_volume p = record { faults = omega arith; moments = omega arith; generations = omega arith }
+  same_volume p = record { faults = omega arith; refusals = omega arith; moments = omega arith; generations = omega arith }
 
   sent_at : (d : Delivery) (os : List Out) → Makes now listening d os old new → new.place.stored ≤ old.place.stored → Elapses holds old new → IsSentAt now listening d os old.place new.place
   sent_at d os h stored time = record { going = h.going; step = record { delivered = h.delivered; moment = moment }; stored = stored; later = later time }
@@ -63,7 +62,6 @@ module _ (holds : Image → State → Type 0) (now : ℕ) (listening : List Byte
       by (Err (NoMemory Ticked)) h = base_of h.ends.may
       by (Err (NoMemory (Unsaid refused))) h = λ b is. inl (h.ends.put_off.base b is)
       by (Err StoreFault) h = h.ends.base
-      by (Err Full) h = λ b is. inl (h.ends.base b is)
       by (Err (Stopped count)) h = λ b is. inl (h.ends.rests.base b is)
       by (Err (Gone other)) h = absurd h.ends
       by (Err (Worn refused)) h = λ b is. inl (h.ends.hides.put_off.base b is)
@@ -121,14 +119,7 @@ module _ (holds : Image → State → Type 0) (now : ℕ) (listening : List Byte
   ticked : Delivers holds (Err (NoMemory Ticked)) now listening old new before after → (seat : ℕ) (at : PlaceAt) → DeliversOn holds 1 seat at now listening Short old new before after
   ticked h seat at =
       let event : Event = tick_at old.place.state in
-      let as_step : Steps holds (Err (NoMemory Ticked)) event now old new before after = record {
-        ends = h.ends;
-        stored = omega (arith, h.stored);
-        time = h.time;
-      }
-      in
-      let step : EndsStep (Err (NoMemory Ticked)) event now old.place new.place before after =
-      failed_step holds event now old new (tick_proper old.place.state small) moment kept.free (NoMemory Ticked) before after as_step in
+      let step = ticked_step holds now old new moment h.time (omega (arith, h.stored)) event before after (tick_proper old.place.state small) h.ends.does h.ends.goes h.ends.outs in
       let led : Led old.place (Step seat event now Silent step.outs false ∷ []) step.outs new.place = (step.made, refl, refl, step.goes, refl, refl) in
       record {
         entries = Step seat event now Silent step.outs false ∷ [];
@@ -143,10 +134,10 @@ module _ (holds : Image → State → Type 0) (now : ℕ) (listening : List Byte
       }
 
   -- one was made and told to nobody, and the place stopped
-  broke : (full : Bool) (d : Delivery) (os : List Out) → MayCommit holds old new → IsSentAt now listening d os old.place new.place → Stops true full old.place.volume new.place.volume new.place.stopped
+  broke : (d : Delivery) (os : List Out) → MayCommit holds old new → IsSentAt now listening d os old.place new.place → Stops true old.place.volume new.place.volume new.place.stopped
       → after ≡ before → (seat : ℕ) (at : PlaceAt) → DeliversOn holds 1 seat at now listening Broke old new before after
-  broke full d os commits step stops outs seat at =
-      let led : Led old.place (Broken seat now (DeliverOf listening d) ∷ []) [] new.place = (os, full, step, stops, refl, refl) in
+  broke d os commits step stops outs seat at =
+      let led : Led old.place (Broken seat now (DeliverOf listening d) ∷ []) [] new.place = (os, step, stops, refl, refl) in
       record {
         entries = Broken seat now (DeliverOf listening d) ∷ [];
         sent = [];
@@ -169,10 +160,7 @@ module _ (holds : Image → State → Type 0) (now : ℕ) (listening : List Byte
       last_sent Short h.ends.delivery h.ends.sent (commits_of (Err (NoMemory (Unsaid refused))) h) (sent_at h.ends.delivery h.ends.sent h.ends.makes h.stored h.time) h.ends.goes h.ends.outs (λ seat es is. tt)
   next_failed StoreFault h =
       let e = h.ends in
-      broke false e.delivery e.sent (commits_of (Err StoreFault) h) (sent_at e.delivery e.sent e.makes h.stored h.time) (e.stops, λ failed. e.cause) e.outs
-  next_failed Full h =
-      let e = h.ends in
-      broke true e.delivery e.sent (commits_of (Err Full) h) (sent_at e.delivery e.sent e.makes h.stored h.time) (e.stops, λ failed. let no : ⊥ = cc in absurd no) e.outs
+      broke e.delivery e.sent (commits_of (Err StoreFault) h) (sent_at e.delivery e.sent e.makes h.stored h.time) (e.stops, e.cause) e.outs
   next_failed (Stopped count) h = absurd (was_stopped count h.ends.stopped)
   next_failed (Gone kept) h = absurd h.ends
   next_failed (Worn refused) h =

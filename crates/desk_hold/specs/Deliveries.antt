@@ -1,5 +1,5 @@
 -- The deliveries of a hold, one after the other, and how they end: by JetStream's pull and push consumers, with bounds of this server's own.
-use Rattle.std.specs.Prelude.{◌≡◌, ◌≢◌, ◌⊎◌, ◌<◌, ◌≤◌, ◌+◌, ◌-◌, ◌^◌, ℕ, Bool, true, false, List, [], ◌∷◌, ◌++◌, length, sum_by, Option, None, Some, Result, Ok, Err}
+use Rattle.std.specs.Prelude.{◌≡◌, ◌≢◌, ◌⊎◌, ◌<◌, ◌≤◌, ◌+◌, ◌-◌, ◌^◌, ℕ, true, false, List, [], ◌∷◌, ◌++◌, length, sum_by, Option, None, Some, Result, Ok, Err}
 use Rattle.js_base.specs.Bytes.{Bytes}
 use Rattle.js_base.specs.declared.out.Out.{Out}
 use Rattle.js_model.specs.declared.event.What.TheVariants.{Tick as LetPass}
@@ -53,7 +53,7 @@ Led old (Deliver seat now listening d outs ∷ more) sent new =
 Led old (Step seat event now reply outs unsaid ∷ more) sent new =
     IsMade event now reply outs old new × (event.what ≡ LetPass) × (reply ≡ Silent) × (new.stopped ≡ None) × (sent ≡ outs) × (more ≡ [])
 Led old (Broken seat now (DeliverOf listening d) ∷ more) sent new =
-    (outs : List Out) × (full : Bool) × IsSentAt now listening d outs old new × Stops true full old.volume new.volume new.stopped × (sent ≡ []) × (more ≡ [])
+    (outs : List Out) × IsSentAt now listening d outs old new × Stops true old.volume new.volume new.stopped × (sent ≡ []) × (more ≡ [])
 Led old (Broken seat now (StepOf event) ∷ more) sent new = ⊥
 
 -- ---- how they end
@@ -62,7 +62,6 @@ Led old (Broken seat now (StepOf event) ∷ more) sent new = ⊥
 abbrev pub ending_by : PlaceFault → Ending
 ending_by (places.NoMemory left) = Short
 ending_by places.StoreFault = Broke
-ending_by places.Full = Broke
 ending_by (places.Stopped count) = Broke
 ending_by (places.Gone kept) = Broke
 ending_by (places.Worn refused) = WornOut

@@ -1,5 +1,6 @@
 pub mod Ports
 pub mod Outcomes
+pub mod Rooms
 pub mod Steps
 pub mod Crashes
 pub mod OnePlace

@@ -13,6 +13,7 @@ use Rattle.js_api.specs.Entries.{Hold, entries_in, DeskEntry, Routed, Looked, Tu
 use Rattle.js_api.specs.Holding.{Holds}
 use Rattle.js_api.specs.Leading.{Leads}
 use Rattle.js_api.specs.Outputs.{outs_of}
+use Rattle.js_api.specs.Rooms.{AreOutgrown}
 use Rattle.js_api.specs.Worlds.{IsHeld, IsStirred}
 use Rattle.place_engine.specs.Stepping.{Image, Seen}
 use Rattle.desk_hold.specs.Crashes.{IsEarlyIn, Outlasts, made_by}
@@ -82,10 +83,12 @@ module _ {R : Type 0} (routes : R → RouteCall → RouteTold → R → Type 0) 
   PlaceStep old (Spent number) new = ⊥
 
   -- A hold of what was asked there came to that, and its entries led from the one place and port to the other. This seat made each of the place's run.
-  -- A crash leaves a beginning of what was made of that run, with all that was confirmed by then
-  pub record HoldsOn (in_image : Image → State → Type 0) (seat : ℕ) (what : What) (now : ℕ) (outcome : Outcome) (old new : Seen) (r s : R) : Type 0 where
+  -- A crash leaves a beginning of what was made of that run, with all that was confirmed by then. `outgrows` is when more would stand at a place than a log can
+  -- begin with.
+  pub record HoldsOn (in_image : Image → State → Type 0) (outgrows : State → What → Type 0) (seat : ℕ) (what : What) (now : ℕ) (outcome : Outcome) (old new : Seen) (r s : R) : Type 0 where
     pub entries : List DeskEntry
     pub holds : Holds at what now outcome entries
     pub led : Leads PlaceStep (on old.place r) entries (on new.place s)
     pub by : AreBy seat entries
+    pub outgrown : AreOutgrown outgrows entries
     pub outlasts : Outlasts in_image (IsEarlyIn entries) (made_by entries) old new

@@ -41,8 +41,7 @@ abbrev pub failed_by : PlaceFault → Bytes → Outcome
 failed_by (places.NoMemory left.Nothing) stream = shortly Nothing
 failed_by (places.NoMemory left.Ticked) stream = shortly Ticked
 failed_by (places.NoMemory (left.Unsaid refused)) stream = shortly (Unsaid refused)
-failed_by places.StoreFault stream = quietly (Broke stream false)
-failed_by places.Full stream = quietly (Broke stream true)
+failed_by places.StoreFault stream = quietly (Broke stream)
 failed_by (places.Stopped count) stream = quietly (Stopped stream)
 failed_by (places.Gone kept) stream = quietly Gone
 failed_by (places.Worn refused) stream = worn_out (Unsaid refused)
@@ -70,7 +69,6 @@ module _ {R : Type 0} (routes : R → RouteCall → RouteTold → R → Type 0) 
   SendsMade (places.NoMemory left.Ticked) outs old new = SendsThem outs old new
   SendsMade (places.NoMemory (left.Unsaid refused)) outs old new = SendsThem outs old new
   SendsMade places.StoreFault outs old new = new ≡ old
-  SendsMade places.Full outs old new = new ≡ old
   SendsMade (places.Stopped count) outs old new = new ≡ old
   SendsMade (places.Gone kept) outs old new = new ≡ old
   SendsMade (places.Worn refused) outs old new = SendsThem outs old new

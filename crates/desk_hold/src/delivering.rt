@@ -23,7 +23,7 @@ pub enum Ending {
     Quiet,
     /// As much was done as a hold does.
     Full,
-    /// The volume failed in the last one, or its log was full, and the place is stopped.
+    /// The volume failed in the last one, and the place is stopped.
     Broke,
     /// Memory ran out.
     Short,
@@ -97,8 +97,7 @@ fn ended_by(fault: PlaceFault) -> Ending
 {
     match fault {
         PlaceFault::NoMemory(_) => Ending::Short,
-        PlaceFault::StoreFault | PlaceFault::Full | PlaceFault::Stopped(_) | PlaceFault::Gone(_) =>
-            Ending::Broke,
+        PlaceFault::StoreFault | PlaceFault::Stopped(_) | PlaceFault::Gone(_) => Ending::Broke,
         PlaceFault::Worn { refused: _ } => Ending::WornOut,
     }
 }

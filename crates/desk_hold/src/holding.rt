@@ -138,11 +138,7 @@ fn fail<R: Port>(port: &mut R, outs: &[Out], fault: PlaceFault, stream: Blob) ->
             let _ = send_all(port, outs);
             worn_out(Became::Unsaid { refused })
         }
-        PlaceFault::StoreFault => quietly(Became::Broke {
-            stream,
-            full: false,
-        }),
-        PlaceFault::Full => quietly(Became::Broke { stream, full: true }),
+        PlaceFault::StoreFault => quietly(Became::Broke { stream }),
         PlaceFault::Stopped(_) => quietly(Became::Stopped { stream }),
         PlaceFault::Gone(_) => quietly(Became::Gone),
     }
@@ -164,7 +160,7 @@ fn hold_named<P: Place, R: Port>(
     requires stream { stream ≡ stream_name (P.seen place.old).place.state }
     requires utf8 { IsUtf8 stream }
     requires numbered { IsNumbered (P.seen place.old).place.state }
-    ensures holds { (seat : ℕ) → HoldsOn R.routes R.worn at P.holds seat event.now.what now result (P.seen place.old) (P.seen place.new) port.old port.new }
+    ensures holds { (seat : ℕ) → HoldsOn R.routes R.worn at P.holds P.room_causes.outgrows_log seat event.now.what now result (P.seen place.old) (P.seen place.new) port.old port.new }
     ensures shown { CanBeShown result.became }
     ensures explained { IsExplained result.fault result.became }
     ensures number { NumbersDropped event.now.what result.became at }
@@ -210,7 +206,7 @@ fn hold_event<P: Place, R: Port>(
 ) -> Outcome
     requires event { event.now ≡ event_at at event.now.what }
     requires asked { MayAsk event.now.what }
-    ensures holds { (seat : ℕ) → HoldsOn R.routes R.worn at P.holds seat event.now.what now result (P.seen place.old) (P.seen place.new) port.old port.new }
+    ensures holds { (seat : ℕ) → HoldsOn R.routes R.worn at P.holds P.room_causes.outgrows_log seat event.now.what now result (P.seen place.old) (P.seen place.new) port.old port.new }
     ensures shown { CanBeShown result.became }
     ensures explained { IsExplained result.fault result.became }
     ensures number { NumbersDropped event.now.what result.became at }
@@ -238,7 +234,7 @@ pub fn hold_on<P: Place, R: Port>(
     now: Moment,
 ) -> Outcome
     requires asked { MayAsk what }
-    ensures holds { (seat : ℕ) → HoldsOn R.routes R.worn at P.holds seat what now result (P.seen place.old) (P.seen place.new) port.old port.new }
+    ensures holds { (seat : ℕ) → HoldsOn R.routes R.worn at P.holds P.room_causes.outgrows_log seat what now result (P.seen place.old) (P.seen place.new) port.old port.new }
     ensures shown { CanBeShown result.became }
     ensures explained { IsExplained result.fault result.became }
     ensures number { NumbersDropped what result.became at }

@@ -2,16 +2,17 @@
 
 ghost use Rattle.std.specs.Prelude.{◌≡◌, ◌<◌, ◌^◌, ◌++◌, IfOk, IsTrue, IsUtf8};
 ghost use Rattle.js_api.specs.Outputs.{answer_of, said, stream_name};
-ghost use Rattle.js_model.specs.Proper.{is_proper};
+ghost use Rattle.js_model.specs.Proper.{is_proper, is_proper_what};
 ghost use Rattle.place_engine.specs.Places.{IsTold};
 ghost use Rattle.place_engine.specs.Shown.{IsShown};
 ghost use Rattle.desk_hold.specs.Crashes.{CommitsStep};
+ghost use Rattle.desk_hold.specs.Rooms.{CommitsNothing, EndsRoom};
 ghost use Rattle.desk_hold.specs.Steps.{EndsStep, IsNumbered};
 
 use desk_answers::answer_of;
 use js_base::{Blob, Moment, NoMemory, Outs};
 use js_model::{Event, Reply, What};
-use place_engine::{Place, PlaceFault};
+use place_engine::{Left, Place, PlaceFault};
 use std::alloc::Global;
 
 /// An event that was made, its reply, and whether memory ran out for its answer.
@@ -53,8 +54,26 @@ pub fn law_moment(now: Moment)
     let _ = now.as_nanos();
 }
 
-/// Makes the event on a place whose stream has this name, and adds what it sends: its outputs, and its answer if one is asked for. An `Err` says
-/// what was made in its place.
+/// Makes room for what is asked of a place, if there is some. `Err` if memory ran out; else a step at the place tells whether it is stopped, as it is if its
+/// volume failed in this.
+fn make_room<P: Place>(place: &mut P, what: &What) -> Result<(), NoMemory>
+    requires proper { IsTrue (is_proper_what what.now) }
+    ensures ends { EndsRoom P.room_causes.outgrows_log result what.now (P.seen place.old) (P.seen place.new) }
+    ensures commits { CommitsNothing P.holds (P.seen place.old) (P.seen place.new) }
+    ensures vol { P.keeps_vol (P.vol place.old) (P.vol place.new) }
+{
+    match place.prepare(what) {
+        Ok(()) => Ok(()),
+        Err(PlaceFault::NoMemory(_)) => Err(NoMemory),
+        Err(PlaceFault::StoreFault) => Ok(()),
+        Err(PlaceFault::Stopped(_)) => Ok(()),
+        Err(PlaceFault::Gone(_)) => unreachable!(),
+        Err(PlaceFault::Worn { refused: _ }) => unreachable!(),
+    }
+}
+
+/// Makes the event on a place whose stream has this name, once room was made for it, and adds what it sends: its outputs, and its answer if one is asked for. An
+/// `Err` says what was made in its place.
 pub fn make<P: Place>(
     alloc: Global,
     place: &mut P,
@@ -67,13 +86,16 @@ pub fn make<P: Place>(
     requires utf8 { IsUtf8 stream.now }
     requires told { IsTold event.now.what }
     requires proper { IsTrue (is_proper event.now) }
-    ensures ends { EndsStep result event.now now (P.seen place.old).place (P.seen place.new).place outs.old outs.new }
+    ensures ends { EndsStep P.room_causes.outgrows_log result event.now now (P.seen place.old).place (P.seen place.new).place outs.old outs.new }
     ensures commits { CommitsStep P.holds result event.now (P.seen place.old) (P.seen place.new) }
     ensures shown { IfOk result (λ step. IsShown step.reply) }
     ensures vol { P.keeps_vol (P.vol place.old) (P.vol place.new) }
 {
     law_moment(now);
-    place.law_kept();
+    match make_room(place, &event.what) {
+        Ok(()) => {}
+        Err(_) => return Err(PlaceFault::NoMemory(Left::Nothing)),
+    }
     match place.step(event, now, outs) {
         Ok(reply) => {
             let unsaid = add_answer(alloc, stream, &event.what, &reply, outs);

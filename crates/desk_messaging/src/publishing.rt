@@ -66,8 +66,8 @@ fn reached<G: Ground>(ground: &mut G, message: &Out, became: &Became) -> Result<
         Became::Unsaid { refused: _ } => unreachable!(),
         Became::Ticked => unreachable!(),
         Became::Nothing => unreachable!(),
-        Became::Broke { stream, full } => {
-            refuse_publish(ground, &message.reply, stream, Reason::broken(*full))
+        Became::Broke { stream } => {
+            refuse_publish(ground, &message.reply, stream, Reason::StoreFault)
         }
         Became::Stopped { stream } => {
             refuse_publish(ground, &message.reply, stream, Reason::StreamStopped)

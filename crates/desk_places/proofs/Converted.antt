@@ -5,6 +5,7 @@ use Rattle.js_model.specs.declared.stream.State.{State}
 use Rattle.js_model.specs.declared.entry.PlaceEntry.{PlaceEntry}
 use Rattle.place_engine.specs.Opening.{AllHold}
 use Rattle.place_engine.specs.Stepping.{Image, IsKept, Seen}
+use Rattle.place_engine.specs.Preparing.{RoomCauses}
 use Rattle.crash_laws.specs.Timed.{Timed}
 use Rattle.crash_laws.specs.Beginnings.{Beginning, Chain, Ever, IsLeftOf}
 use Rattle.crash_laws.specs.Outlasting.{AreBetween, HasBases, Outlasts}
@@ -82,10 +83,10 @@ timed_left may t is_base IsBase bases old timed new left fine h =
 
 -- ---- a place and its volume
 
-module _ {P V : Type 0} (seen : P → Seen) (vol : P → V) (holds : Image → State → Type 0) (reads : V → Image → Type 0) (left : V → ℕ → Image → Type 0) (clock faults : V → ℕ) (base : Option ℕ → V → State → Type 0)
+module _ {P V : Type 0} (seen : P → Seen) (vol : P → V) (holds : Image → State → Type 0) (reads : V → Image → Type 0) (left : V → ℕ → Image → Type 0) (clock faults : V → ℕ) (causes : RoomCauses V) (base : Option ℕ → V → State → Type 0)
     (bases : (p : P) (b : State) → (seen p).is_base b ↔ base (seen p).place.stopped (vol p) b)
     (leaves : (p : P) (t : ℕ) (image : Image) → (seen p).left_since t image ↔ left (vol p) t image)
-    (stands : (p : P) → ((seen p).place.volume.moment ≡ clock (vol p)) × ((seen p).place.volume.faults ≡ faults (vol p))) where
+    (stands : (p : P) → ((seen p).place.volume.moment ≡ clock (vol p)) × ((seen p).place.volume.faults ≡ faults (vol p)) × ((seen p).place.volume.refusals ≡ causes.refusals (vol p))) where
   -- a crash now may leave an image of a base alone
   pub has_bases : (p : P) → IsKept holds (seen p) → HasBases holds left clock (base (seen p).place.stopped (vol p)) (vol p)
   has_bases p kept image is_left =

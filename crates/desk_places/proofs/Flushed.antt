@@ -7,8 +7,9 @@ use Rattle.place_engine.specs.Flushing.{Flushes}
 use Rattle.place_engine.specs.Opening.{AllHold}
 use Rattle.place_engine.specs.Stepping.{Image, IsKept, MayKeepBase, Seen}
 use Rattle.place_engine.specs.declared.faults.PlaceFault.{PlaceFault}
-use Rattle.place_engine.specs.declared.faults.PlaceFault.TheVariants.{NoMemory, StoreFault, Full, Stopped, Gone, Worn}
+use Rattle.place_engine.specs.declared.faults.PlaceFault.TheVariants.{NoMemory, StoreFault, Stopped, Gone, Worn}
 use Rattle.place_engine.specs.declared.faults.Left.TheVariants.{Nothing, Ticked, Unsaid}
+use Rattle.place_engine.specs.Preparing.{RoomCauses}
 use Rattle.crash_laws.specs.Outlasting.{Outlasts}
 use Rattle.crash_laws.proofs.Following.{outlasts_nothing}
 use Rattle.desk_hold.specs.Crashes.{MayCommit}
@@ -25,7 +26,6 @@ module _ (holds : Image → State → Type 0) (old new : Seen) where
   state_kept (Err (NoMemory Ticked)) h = absurd h.ends
   state_kept (Err (NoMemory (Unsaid refused))) h = absurd h.ends
   state_kept (Err StoreFault) h = h.ends.keeps.state
-  state_kept (Err Full) h = h.ends.keeps.state
   state_kept (Err (Stopped count)) h = h.ends.rests.state
   state_kept (Err (Gone kept)) h = absurd h.ends
   state_kept (Err (Worn refused)) h = h.ends.unflushed.rests.state
@@ -36,19 +36,18 @@ module _ (holds : Image → State → Type 0) (old new : Seen) where
   base_kept (Err (NoMemory Ticked)) h = absurd h.ends
   base_kept (Err (NoMemory (Unsaid refused))) h = absurd h.ends
   base_kept (Err StoreFault) h = h.ends.base
-  base_kept (Err Full) h = λ b is. inl (h.ends.base b is)
   base_kept (Err (Stopped count)) h = λ b is. inl (h.ends.rests.base b is)
   base_kept (Err (Gone kept)) h = absurd h.ends
   base_kept (Err (Worn refused)) h = λ b is. inl (h.ends.unflushed.rests.base b is)
 
 -- ---- what a crash may leave
 
-module _ {P V : Type 0} (seen : P → Seen) (vol : P → V) (holds : Image → State → Type 0) (reads : V → Image → Type 0) (left : V → ℕ → Image → Type 0) (clock faults : V → ℕ)
+module _ {P V : Type 0} (seen : P → Seen) (vol : P → V) (holds : Image → State → Type 0) (reads : V → Image → Type 0) (left : V → ℕ → Image → Type 0) (clock faults : V → ℕ) (causes : RoomCauses V)
     (base : Option ℕ → V → State → Type 0) (keeps : V → V → Type 0)
     (bases : (p : P) (b : State) → (seen p).is_base b ↔ base (seen p).place.stopped (vol p) b)
     (leaves : (p : P) (t : ℕ) (image : Image) → (seen p).left_since t image ↔ left (vol p) t image)
     (earlier : (v : V) (t u : ℕ) (image : Image) → t ≤ u → left v u image → left v t image)
-    (stands : (p : P) → ((seen p).place.volume.moment ≡ clock (vol p)) × ((seen p).place.volume.faults ≡ faults (vol p))) where
+    (stands : (p : P) → ((seen p).place.volume.moment ≡ clock (vol p)) × ((seen p).place.volume.faults ≡ faults (vol p)) × ((seen p).place.volume.refusals ≡ causes.refusals (vol p))) where
   -- nothing was made, and the volume was left so
   abbrev Leaves : P → Option ℕ → V → Type 0
   Leaves p still end = Outlasts holds left clock (base (seen p).place.stopped (vol p)) (base still end) [] (seen p).place.state (seen p).place.state (vol p) end
@@ -69,7 +68,7 @@ module _ {P V : Type 0} (seen : P → Seen) (vol : P → V) (holds : Image → S
         let same = state_kept holds (seen p) (seen q) told h in
         let commits : MayCommit holds (seen p) (seen q) = record { time = h.time; base = base_kept holds (seen p) (seen q) told h } in
         subst (λ (s : State). Outlasts holds left clock (base (seen p).place.stopped (vol p)) (base (seen q).place.stopped (vol q)) [] (seen p).place.state s (vol p) (vol q)) same
-        (outlasts_so seen vol holds reads left clock faults base bases leaves stands p q still (λ t. ⊥) [] h.time.moments tt (λ t. tt)
+        (outlasts_so seen vol holds reads left clock faults causes base bases leaves stands p q still (λ t. ⊥) [] h.time.moments tt (λ t. tt)
         (outlasts_call holds (seen p) (seen q) kept still commits [] (sym same)))
 
     -- it was flushed
@@ -84,7 +83,7 @@ module _ {P V : Type 0} (seen : P → Seen) (vol : P → V) (holds : Image → S
         ends (Ok done) h = (
           (q, record { going = going; flushes = h; volume = keeps_it }, same),
           subst (λ (v : V). AllHold holds reads left clock v (lasting (seen p).place.state)) (sym same)
-              (all_hold seen vol holds reads left clock faults base bases leaves stands q still (read h.ends.goes) (lasting (seen p).place.state)
+              (all_hold seen vol holds reads left clock faults causes base bases leaves stands q still (read h.ends.goes) (lasting (seen p).place.state)
               (λ b is. h.ends.flushed.base b is ∙ ap lasting (state_kept holds (seen p) (seen q) (Ok done) h))),
         )
         ends (Err fault) h = (q, record { going = going; flushes = h; volume = keeps_it }, same)

@@ -9,6 +9,6 @@ is_held (Made reply) = true
 is_held (Unsaid refused) = true
 is_held Ticked = true
 is_held Nothing = false
-is_held (Broke stream full) = true
+is_held (Broke stream) = true
 is_held (Stopped stream) = false
 is_held Gone = false

@@ -4,10 +4,11 @@ use Rattle.std.specs.List.{AllZip}
 use Rattle.js_base.specs.Causes.{Rose}
 use Rattle.js_model.specs.declared.stream.State.{State}
 use Rattle.catalog.specs.Conflicts.{IsFirstConflict}
-use Rattle.place_engine.specs.Opening.{AllHold, IsOpened, IsUnopened}
+use Rattle.place_engine.specs.Opening.{AllHold, HasNoRoom, IsOpened, IsUnopened}
 use Rattle.place_engine.specs.Stepping.{Image, Seen}
 use Rattle.place_engine.specs.declared.faults.OpenFault.{OpenFault}
-use Rattle.place_engine.specs.declared.faults.OpenFault.TheVariants.{Fault}
+use Rattle.place_engine.specs.declared.faults.OpenFault.TheVariants.{Fault, NoRoom}
+use Rattle.place_engine.specs.Preparing.{RoomCauses}
 use Rattle.js_api.specs.Worlds.{kept_in}
 use Rattle.crash_laws.specs.Opened.{IsOpenedAt}
 use Rattle.desk_places.specs.Places.{places_by}
@@ -15,8 +16,8 @@ use Rattle.desk_places.specs.declared.faults.HubFault.{HubFault}
 use Rattle.desk_places.specs.declared.faults.HubFault.TheVariants.{Open, Conflict, NoMemory}
 
 -- Of a kind of place: what contracts see of it, its volume, which state an image holds, what reads of a volume give and what a crash may have left of it, its
--- moment and its faults, which states it may hold, to which states a place may be opened on it and why not, and what a call may make of it.
-module _ {P V : Type 0} (seen : P → Seen) (vol : P → V) (holds : Image → State → Type 0) (reads : V → Image → Type 0) (left : V → ℕ → Image → Type 0) (clock faults : V → ℕ)
+-- moment, its faults and why there may be no room, which states it may hold, to which states a place may be opened on it and why not, and what a call may make of it.
+module _ {P V : Type 0} (seen : P → Seen) (vol : P → V) (holds : Image → State → Type 0) (reads : V → Image → Type 0) (left : V → ℕ → Image → Type 0) (clock faults : V → ℕ) (causes : RoomCauses V)
     (base : Option ℕ → V → State → Type 0) (opens : V → State → Type 0) (refuses : V → OpenFault → Type 0) (keeps : V → V → Type 0) where
   -- A place was opened on the volume, which holds the state to which it was opened. If the volume held it before, then each image that a crash since then may
   -- have left holds it.
@@ -30,6 +31,7 @@ module _ {P V : Type 0} (seen : P → Seen) (vol : P → V) (holds : Image → S
   pub record RefusesOn (before : V) (fault : OpenFault) (after : V) : Type 0 where
     pub refused : refuses before fault
     pub cause : fault ≡ Fault → Rose (faults before) (faults after)
+    pub no_room : fault ≡ NoRoom → HasNoRoom causes opens before after
     pub unopened : IsUnopened holds reads left clock opens before after
     pub volume : keeps before after
 

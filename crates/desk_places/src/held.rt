@@ -18,7 +18,7 @@ pub fn is_dropped(asked: bool, became: &Became) -> bool
         Became::Unsaid { refused } => !*refused,
         Became::Ticked => false,
         Became::Nothing => false,
-        Became::Broke { stream: _, full: _ } => false,
+        Became::Broke { stream: _ } => false,
         Became::Stopped { stream: _ } => false,
         Became::Gone => false,
     };
@@ -40,7 +40,7 @@ pub fn last_of(became: &Became, at: PlaceAt, before: Option<PlaceAt>) -> Option<
         Became::Made(_) => Some(at),
         Became::Unsaid { refused: _ } => Some(at),
         Became::Ticked => Some(at),
-        Became::Broke { stream: _, full: _ } => Some(at),
+        Became::Broke { stream: _ } => Some(at),
         Became::Nothing => before,
         Became::Stopped { stream: _ } => before,
         Became::Gone => before,

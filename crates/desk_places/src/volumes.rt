@@ -24,8 +24,8 @@ pub fn give_back<P: Place>(places: Vec<P>, vols: &mut Vec<P::Vol>)
 
 /// Opens a place on a volume, and shows what a crash may leave of it.
 fn open_place<P: Place>(alloc: Global, vol: P::Vol) -> Result<P, (OpenFault, P::Vol)>
-    ensures opened { IfOk result (OpensOn P.seen P.vol P.holds P.reads P.left P.clock P.faults P.base P.opens P.refuses P.keeps_vol vol) }
-    ensures refused { IfErr result (λ stop. RefusesOn P.seen P.vol P.holds P.reads P.left P.clock P.faults P.base P.opens P.refuses P.keeps_vol vol stop.0 stop.1) }
+    ensures opened { IfOk result (OpensOn P.seen P.vol P.holds P.reads P.left P.clock P.faults P.room_causes P.base P.opens P.refuses P.keeps_vol vol) }
+    ensures refused { IfErr result (λ stop. RefusesOn P.seen P.vol P.holds P.reads P.left P.clock P.faults P.room_causes P.base P.opens P.refuses P.keeps_vol vol stop.0 stop.1) }
 {
     match P::open(alloc, vol) {
         Ok(place) => {
@@ -44,9 +44,9 @@ fn open_each<P: Place>(
 ) -> Result<(), (OpenFault, P::Vol)>
     requires none { places.old.items ≡ [] }
     requires room { vec_len vols.old ≤ vec_capacity places.old }
-    ensures opened { OnOk result (AllZip (OpensOn P.seen P.vol P.holds P.reads P.left P.clock P.faults P.base P.opens P.refuses P.keeps_vol) (reverse vols.old.items) places.new.items) }
+    ensures opened { OnOk result (AllZip (OpensOn P.seen P.vol P.holds P.reads P.left P.clock P.faults P.room_causes P.base P.opens P.refuses P.keeps_vol) (reverse vols.old.items) places.new.items) }
     ensures emptied { OnOk result (vols.new.items ≡ []) }
-    ensures stopped { IfErr result (λ stop. StopsAt P.seen P.vol P.holds P.reads P.left P.clock P.faults P.base P.opens P.refuses P.keeps_vol vols.old.items stop.0 stop.1 vols.new.items places.new.items) }
+    ensures stopped { IfErr result (λ stop. StopsAt P.seen P.vol P.holds P.reads P.left P.clock P.faults P.room_causes P.base P.opens P.refuses P.keeps_vol vols.old.items stop.0 stop.1 vols.new.items places.new.items) }
     ensures room { OnOk result (vec_len vols.new + length places.new.items ≤ vec_capacity vols.new) }
     ensures more { IfErr result (λ _. vec_len vols.new + length places.new.items < vec_capacity vols.new) }
     ensures few { length places.new.items ≤ length vols.old.items }
@@ -67,10 +67,10 @@ pub fn open_places<P: Place>(
     vols: Vec<P::Vol>,
 ) -> Result<(Vec<P>, Vec<P::Vol>), HubFault<P::Vol>>
     requires few { length vols.items ≤ 32 }
-    ensures opened { IfOk result (λ made. AllZip (OpensOn P.seen P.vol P.holds P.reads P.left P.clock P.faults P.base P.opens P.refuses P.keeps_vol) vols.items made.0.items) }
+    ensures opened { IfOk result (λ made. AllZip (OpensOn P.seen P.vol P.holds P.reads P.left P.clock P.faults P.room_causes P.base P.opens P.refuses P.keeps_vol) vols.items made.0.items) }
     ensures emptied { IfOk result (λ made. made.1.items ≡ []) }
     ensures room { IfOk result (λ made. length made.0.items ≤ vec_capacity made.1) }
-    ensures err { IfErr result (FailsToOpen P.seen P.vol P.holds P.reads P.left P.clock P.faults P.base P.opens P.refuses P.keeps_vol vols.items) }
+    ensures err { IfErr result (FailsToOpen P.seen P.vol P.holds P.reads P.left P.clock P.faults P.room_causes P.base P.opens P.refuses P.keeps_vol vols.items) }
 {
     let mut vols = vols;
     let mut places = Vec::new(alloc);

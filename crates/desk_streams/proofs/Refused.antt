@@ -37,6 +37,6 @@ making_so (Made reply) explained there = record { result_is = refl; entries_are 
 making_so (Unsaid refused) explained there = absurd explained
 making_so Ticked explained there = absurd explained
 making_so Nothing explained there = absurd explained
-making_so (Broke stream full) explained there = record { result_is = refl; entries_are = refl }
+making_so (Broke stream) explained there = record { result_is = refl; entries_are = refl }
 making_so (Stopped stream) explained there = record { result_is = refl; entries_are = refl }
 making_so Gone explained there = absurd there

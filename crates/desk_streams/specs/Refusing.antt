@@ -4,13 +4,12 @@ use Rattle.js_base.specs.Bytes.{Bytes}
 use Rattle.js_base.specs.declared.out.ApiError.{ApiError}
 use Rattle.js_model.specs.declared.catalog_fault.CatalogFault.{CatalogFault}
 use Rattle.js_model.specs.declared.catalog_fault.CatalogFault.TheVariants.{Refused, NoMemory}
-use Rattle.js_model.specs.Refusals.{stream_stopped}
+use Rattle.js_model.specs.Refusals.{store_fault, stream_stopped}
 use Rattle.js_api.specs.declared.fault.DeskFault.{DeskFault}
 use Rattle.js_api.specs.declared.fault.DeskFault.TheVariants as faults
 use Rattle.js_api.specs.declared.outcome.Became.{Became}
 use Rattle.js_api.specs.declared.outcome.Became.TheVariants.{Made, Unsaid, Ticked, Nothing, Broke, Stopped, Gone}
 use Rattle.js_api.specs.Entries.{DeskEntry}
-use Rattle.js_api.specs.Holding.{broken_by}
 use Rattle.js_api.specs.Making.{refusal_in}
 use Rattle.js_api.specs.OneStream.{Answers, IsShort, refusal}
 
@@ -32,6 +31,6 @@ refused_by (Made reply) = refusal_in reply
 refused_by (Unsaid refused) = None
 refused_by Ticked = None
 refused_by Nothing = None
-refused_by (Broke stream full) = Some (broken_by full)
+refused_by (Broke stream) = Some store_fault
 refused_by (Stopped stream) = Some stream_stopped
 refused_by Gone = None

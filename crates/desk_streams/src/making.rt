@@ -21,7 +21,7 @@ use crate::creating::make_at;
 use desk_ground::Ground;
 use js_api::{Became, DeskFault, Outcome};
 use js_base::{ApiError, Blob, List, Moment, Name, NoMemory};
-use js_model::refusals::{log_full, store_fault, stream_stopped};
+use js_model::refusals::{store_fault, stream_stopped};
 use js_model::{CatalogFault, Discard, PlaceAt, Reply, Retention, StreamConfig};
 use std::alloc::Global;
 
@@ -60,12 +60,11 @@ fn default_config(alloc: Global, name: &Name, subject: &[u8]) -> Result<StreamCo
     })
 }
 
-/// What the making of a stream needs: its configuration, and what is told if the volume of its place fails, its log is full, or it was stopped before.
+/// What the making of a stream needs: its configuration, and what is told if the volume of its place fails, or it was stopped before.
 #[derive(Drop)]
 struct Prepared {
     config: StreamConfig,
     broke: ApiError,
-    full: ApiError,
     stopped: ApiError,
 }
 
@@ -74,13 +73,11 @@ fn prepare(alloc: Global, name: &Name, subject: &[u8]) -> Result<Prepared, NoMem
     ensures asked { IfOk result (λ made. MayAsk (whats.Make None made.config)) }
     ensures config { IfOk result (λ made. made.config ≡ default_config name.now subject.now) }
     ensures broke { IfOk result (λ made. made.broke ≡ refusals.store_fault) }
-    ensures full { IfOk result (λ made. made.full ≡ refusals.log_full) }
     ensures stopped { IfOk result (λ made. made.stopped ≡ refusals.stream_stopped) }
 {
     Ok(Prepared {
         config: default_config(alloc, name, subject)?,
         broke: store_fault(alloc)?,
-        full: log_full(alloc)?,
         stopped: stream_stopped(alloc)?,
     })
 }
@@ -108,28 +105,15 @@ fn refusal_in(reply: Reply) -> Option<ApiError>
     }
 }
 
-/// Why the stream was not made, by what became of the hold: its refusal, or that the volume failed, its log is full, or the place was stopped before.
-fn refused_by(
-    became: Became,
-    broke: ApiError,
-    full: ApiError,
-    stopped: ApiError,
-) -> Option<ApiError>
+/// Why the stream was not made, by what became of the hold: its refusal, or that the volume failed, or the place was stopped before.
+fn refused_by(became: Became, broke: ApiError, stopped: ApiError) -> Option<ApiError>
     requires broke { broke ≡ refusals.store_fault }
-    requires full { full ≡ refusals.log_full }
     requires stopped { stopped ≡ refusals.stream_stopped }
     ensures value { result ≡ refused_by became }
 {
     match became {
         Became::Made(reply) => refusal_in(reply),
-        Became::Broke {
-            stream: _,
-            full: false,
-        } => Some(broke),
-        Became::Broke {
-            stream: _,
-            full: true,
-        } => Some(full),
+        Became::Broke { stream: _ } => Some(broke),
         Became::Stopped { stream: _ } => Some(stopped),
         Became::Unsaid { refused: _ } | Became::Ticked | Became::Nothing | Became::Gone => None,
     }
@@ -139,17 +123,15 @@ fn refused_by(
 fn making_told(
     outcome: Outcome,
     broke: ApiError,
-    full: ApiError,
     stopped: ApiError,
 ) -> Result<Option<ApiError>, DeskFault>
     requires explained { IsExplained outcome.fault outcome.became }
     requires there { IsThere outcome.became }
     requires broke { broke ≡ refusals.store_fault }
-    requires full { full ≡ refusals.log_full }
     requires stopped { stopped ≡ refusals.stream_stopped }
     ensures told { Ending outcome.fault (IsMaking outcome.became) result [] }
 {
-    let refused = refused_by(outcome.became, broke, full, stopped);
+    let refused = refused_by(outcome.became, broke, stopped);
     match outcome.fault {
         Some(fault) => Err(fault),
         None => Ok(refused),
@@ -177,7 +159,6 @@ fn add_prepared<G: Ground>(
     requires turn { G.phase ground.old ≡ Within }
     requires asked { MayAsk (whats.Make None prepared.config) }
     requires broke { prepared.broke ≡ refusals.store_fault }
-    requires full { prepared.full ≡ refusals.log_full }
     requires stopped { prepared.stopped ≡ refusals.stream_stopped }
     ensures made { Makes G.made (IsAdding name.now prepared.config (GoesOnTaken prepared.config now) result) ground.old ground.new }
     ensures setting { G.setting ground.new ≡ G.setting ground.old }
@@ -186,13 +167,12 @@ fn add_prepared<G: Ground>(
     let Prepared {
         config,
         broke,
-        full,
         stopped,
     } = prepared;
     match ground.add(name, config.subjects.as_slice()) {
         Ok(at) => {
             let outcome = make_at(ground, at, &None, config, now);
-            making_told(outcome, broke, full, stopped)
+            making_told(outcome, broke, stopped)
         }
         Err(fault) => untaken(fault),
     }

@@ -73,7 +73,7 @@ fn add_told(outcome: Outcome, infos: &mut Vec<StreamInfo>) -> Result<Option<Reas
             add_info(reply, infos);
             Ok(None)
         }
-        Became::Broke { stream: _, full } => Ok(Some(Reason::broken(full))),
+        Became::Broke { stream: _ } => Ok(Some(Reason::StoreFault)),
         Became::Stopped { stream: _ } => Ok(Some(Reason::StreamStopped)),
         Became::Unsaid { refused: _ } | Became::Ticked | Became::Nothing | Became::Gone => Ok(None),
     }
@@ -126,7 +126,7 @@ fn walk_behind<G: Ground>(
 }
 
 /// Adds the informations of all streams, in the order of their places, and answers by which failure the call is refused: the volume of a place failed,
-/// its log is full, or it was stopped before.
+/// or it was stopped before.
 pub fn walk<G: Ground>(
     ground: &mut G,
     infos: &mut Vec<StreamInfo>,

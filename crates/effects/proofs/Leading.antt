@@ -14,7 +14,7 @@ use Rattle.js_model.specs.Advance.{advance}
 use Rattle.js_model.specs.Consumers.{empty_stream}
 use Rattle.js_model.specs.Trim.{trim}
 use Rattle.js_model.specs.Retention.{kept}
-use Rattle.js_model.specs.Events.{answered, settled, settled_state, stream_answer, vacant_answer, stream_told, vacantly}
+use Rattle.js_model.specs.Events.{answered, settled, settled_state, stream_answer, vacant_answer, stream_made, vacantly}
 use Rattle.js_model.specs.Refusals.{numbers_used_up}
 use Rattle.js_model.specs.declared.reply.Reply.TheVariants.{Refused}
 use Rattle.js_model.proofs.Parts.{filter_part, trim_part, part_trans}
@@ -24,7 +24,7 @@ use Rattle.model_laws.proofs.SoundTime.{sound_time}
 use Rattle.effects.specs.declared.effect.Effect.TheVariants.{MakeStream}
 use Rattle.effects.specs.Folding.{live, empty_body}
 use Rattle.effects.specs.TimeEffects.{time_effects}
-use Rattle.effects.specs.Effects.{vacant_effects, live_effects, event_effects}
+use Rattle.effects.specs.Effects.{stream_effects, vacant_effects, live_effects, event_effects}
 use Rattle.effects.specs.Laws.{Leads, LawEvents, LawDeliveries}
 use Rattle.effects.proofs.Removing.{leads_settled, leads_both}
 use Rattle.effects.proofs.Passing.{leads_time}
@@ -65,37 +65,38 @@ leads_new i now config =
     ap (λ (b : Bool). cond b (Some (live (i + 1) (empty_body now config))) None) (eq-eqb (i + 1) (i + 1) refl)
     ∙ ap (λ (ms : List Message). Some (live (i + 1) (record (empty_body now config) { messages = ms }))) (sym (part_nil (part_trans (filter_part _ (trim (empty_stream (i + 1) config now)).messages) (trim_part (empty_stream (i + 1) config now))) refl))
 
-leads_vacant : (i : ℕ) (what : What) (now : ℕ) → Leads (Vacant i) (vacant_effects i what now) (settled_state (vacant_answer i what now).state)
-leads_vacant i (Make reply config) now = go (i + 1 == 2 ^ 62)
+leads_vacant : (i : ℕ) (what : What) (now : ℕ) (room : Bool) → Leads (Vacant i) (vacant_effects i what now room) (settled_state (vacant_answer i what now room).state)
+leads_vacant i (Make reply config) now room = go (i + 1 == 2 ^ 62) room
   where
-    answer : Bool → Answer
-    answer b = cond b (vacantly (Refused numbers_used_up) i) (stream_told (empty_stream (i + 1) config now))
+    answer : (b room : Bool) → Answer
+    answer b room = cond b (vacantly (Refused numbers_used_up) i) (stream_made i config now room)
 
-    go : (b : Bool) → Leads (Vacant i) (cond b [] (MakeStream (i + 1) now config ∷ [])) (settled_state (answer b).state)
-    go true = refl
-    go false = leads_new i now config
-leads_vacant i (Change reply config) now = refl
-leads_vacant i (DropStream reply) now = refl
-leads_vacant i (PublishIt p) now = refl
-leads_vacant i (Purge reply pattern below keep) now = refl
-leads_vacant i (Delete reply n) now = refl
-leads_vacant i (MakeConsumer reply name config update) now = refl
-leads_vacant i (DropConsumer reply name) now = refl
-leads_vacant i (AckIt reply ack) now = refl
-leads_vacant i (PullIt reply name ask) now = refl
-leads_vacant i Tick now = refl
-leads_vacant i (AskStream reply) now = refl
-leads_vacant i (MessageGet reply by) now = refl
-leads_vacant i (AskConsumer reply name) now = refl
-leads_vacant i (ConsumerNames reply offset) now = refl
-leads_vacant i (ConsumerList reply offset) now = refl
+    go : (b room : Bool) → Leads (Vacant i) (cond b [] (stream_effects i config now room)) (settled_state (answer b room).state)
+    go true room = refl
+    go false false = refl
+    go false true = leads_new i now config
+leads_vacant i (Change reply config) now room = refl
+leads_vacant i (DropStream reply) now room = refl
+leads_vacant i (PublishIt p) now room = refl
+leads_vacant i (Purge reply pattern below keep) now room = refl
+leads_vacant i (Delete reply n) now room = refl
+leads_vacant i (MakeConsumer reply name config update) now room = refl
+leads_vacant i (DropConsumer reply name) now room = refl
+leads_vacant i (AckIt reply ack) now room = refl
+leads_vacant i (PullIt reply name ask) now room = refl
+leads_vacant i Tick now room = refl
+leads_vacant i (AskStream reply) now room = refl
+leads_vacant i (MessageGet reply by) now room = refl
+leads_vacant i (AskConsumer reply name) now room = refl
+leads_vacant i (ConsumerNames reply offset) now room = refl
+leads_vacant i (ConsumerList reply offset) now room = refl
 
 -- ---- the laws
 
 pub law_events : LawEvents
 unfolding answered
 law_events count (Vacant i) new e now reply outs x h b =
-    subst (Leads (Vacant i) (vacant_effects i e.what now)) (ap (λ (a : Answer). a.state) x.event.answers) (leads_vacant i e.what now)
+    subst (Leads (Vacant i) (vacant_effects i e.what now x.event.room)) (ap (λ (a : Answer). a.state) x.event.answers) (leads_vacant i e.what now x.event.room)
 law_events count (Live s) new e now reply outs x h b =
     let sound = join (Live s) h in
     subst (Leads (Live s) (event_effects (Live s) e.what now x.event.room)) (ap (λ (a : Answer). a.state) x.event.answers)

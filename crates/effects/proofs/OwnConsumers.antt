@@ -16,7 +16,7 @@ use Rattle.js_model.specs.Refusals.{first_refusal, consumer_exists}
 use Rattle.js_model.specs.Configs.{same_consumer_config}
 use Rattle.js_model.specs.Consumers.{is_before, new_consumer, with_new, making_checks, queue_checks}
 use Rattle.js_model.specs.Pulls.{pulled, pulled_unless, pull_refusal}
-use Rattle.js_model.specs.Events.{settled, settled_state, refused, consumer_told, consumer_made, consumer_asked, consumer_dropped, pull_answer}
+use Rattle.js_model.specs.Events.{settled, settled_state, refused, consumer_told, consumer_made, or_no_room, consumer_asked, consumer_dropped, pull_answer}
 use Rattle.js_model.proofs.Named.{by_name-map}
 use Rattle.model_laws.proofs.Whole.{IsSoundStream}
 use Rattle.model_laws.proofs.ConsumerFacts.{pulled-name}
@@ -51,12 +51,15 @@ module _ (a : Stream) (name : Bytes) (config : ConsumerConfig) (absent : by_name
       ap (λ (o : Option Consumer). live_if a.incarnation (with_made (body_of a) (lasting_consumer (new_consumer a name config)) o)) (by_name-map lasting_consumer lasting_names a.consumers name ∙ ap (option_map lasting_consumer) absent)
       ∙ ap (λ (cs : List Consumer). Some (live a.incarnation (record (body_of a) { consumers = cs }))) (with_new_lasting (new_consumer a name config) a.consumers)
 
-  leads_made : (reply : Option Bytes) (refusal : Option ApiError) → first_refusal (making_checks a name config) ≡ refusal → IsProperWhat (MakeConsumer reply name config false) → IsSoundStream a
-      → Leads (Live a) (made_effects a name config refusal ++ settle_effects [] (consumer_made a name config refusal).state) (settled_state (consumer_made a name config refusal).state)
-  leads_made reply None e g h =
+  leads_made : (reply : Option Bytes) (room : Bool) (refusal : Option ApiError) → first_refusal (making_checks a name config) ≡ refusal → IsProperWhat (MakeConsumer reply name config false) → IsSoundStream a
+      → Leads (Live a) (made_effects a name config (or_no_room room refusal) ++ settle_effects [] (consumer_made a name config (or_no_room room refusal)).state)
+      (settled_state (consumer_made a name config (or_no_room room refusal)).state)
+  leads_made reply true None e g h =
       subst (λ (s : State). Leads (Live a) (made_effects a name config None ++ settle_effects [] s) (settled_state s)) (sym (told_state made (by_name (settled made).consumers name)))
       (then_settled a made (made_effects a name config None) (sound_fact.change.made a reply name config g absent e h) leads_new)
-  leads_made reply (Some r) e g h = leads_settled a h
+  leads_made reply true (Some r) e g h = leads_settled a h
+  leads_made reply false None e g h = leads_settled a h
+  leads_made reply false (Some r) e g h = leads_settled a h
 
 pub leads_make_consumer : (a : Stream) (reply : Option Bytes) (name : Bytes) (config : ConsumerConfig) (update room : Bool) → IsProperWhat (MakeConsumer reply name config update) → IsSoundStream a → LeadsOn a (MakeConsumer reply name config update) room
 leads_make_consumer a reply name config update room g h = go update (by_name a.consumers name) refl g
@@ -65,11 +68,11 @@ leads_make_consumer a reply name config update room g h = go update (by_name a.c
     present c = same_state (Live a) (same_consumer_config config c.config) (consumer_told a name) (refused (unwrap_or (first_refusal (queue_checks a name config)) consumer_exists) a) (told_state a (by_name (settled a).consumers name)) refl
 
     go : (update : Bool) (c : Option Consumer) → by_name a.consumers name ≡ c → IsProperWhat (MakeConsumer reply name config update)
-        → Leads (Live a) (make_effects a name config update c ++ settle_effects [] (consumer_asked a name config update c).state) (settled_state (consumer_asked a name config update c).state)
+        → Leads (Live a) (make_effects a name config update room c ++ settle_effects [] (consumer_asked a name config update room c).state) (settled_state (consumer_asked a name config update room c).state)
     go true None e g = leads_settled a h
-    go false None e g = leads_made a name config e reply (first_refusal (making_checks a name config)) refl g h
-    go true (Some c) e g = stays a (consumer_asked a name config true (Some c)).state h (present c)
-    go false (Some c) e g = stays a (consumer_asked a name config false (Some c)).state h (present c)
+    go false None e g = leads_made a name config e reply room (first_refusal (making_checks a name config)) refl g h
+    go true (Some c) e g = stays a (consumer_asked a name config true room (Some c)).state h (present c)
+    go false (Some c) e g = stays a (consumer_asked a name config false room (Some c)).state h (present c)
 
 pub leads_told : (a : Stream) (reply : Option Bytes) (name : Bytes) (room : Bool) → IsSoundStream a → LeadsOn a (AskConsumer reply name) room
 leads_told a reply name room h = stays a (consumer_told a name).state h (told_state a (by_name (settled a).consumers name))

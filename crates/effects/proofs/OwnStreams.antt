@@ -11,9 +11,9 @@ use Rattle.js_model.specs.declared.consumer.Consumer.{Consumer}
 use Rattle.js_model.specs.declared.event.GetBy.{GetBy}
 use Rattle.js_model.specs.declared.event.What.{What}
 use Rattle.js_model.specs.declared.event.What.TheVariants.{Make, Change, Drop as DropStream, Purge, Delete, MessageGet}
-use Rattle.js_model.specs.Refusals.{other_config, retention_cannot_change}
+use Rattle.js_model.specs.Refusals.{no_room, other_config, retention_cannot_change}
 use Rattle.js_model.specs.Configs.{same_stream_config, same_retention}
-use Rattle.js_model.specs.Events.{settled_state, stream_answer, stream_told, refused, without_messages, purge_list, deleted, message_at, message_told, message_by, told_of}
+use Rattle.js_model.specs.Events.{settled_state, stream_answer, stream_told, changed, with_config, refused, without_messages, purge_list, deleted, message_at, message_told, message_by, told_of}
 use Rattle.js_model.proofs.Parts.{filter_part}
 use Rattle.model_laws.proofs.Whole.{IsSoundStream}
 use Rattle.model_laws.proofs.Sounding.{IsProperWhat, sound_fact}
@@ -33,8 +33,15 @@ pub leads_make : (a : Stream) (reply : Option Bytes) (config : StreamConfig) (ro
 leads_make a reply config room h =
     stays a (stream_answer a (Make reply config) room).state h (same_state (Live a) (same_stream_config config a.config) (stream_told a) (refused other_config a) refl refl)
 
+-- without room the configuration stays
+pub config_kept : (a : Stream) (config : StreamConfig) → (changed a config false).state ≡ Live a
+config_kept a config =
+    same_state (Live a) (same_retention config.retention a.config.retention) (with_config a config false) (refused retention_cannot_change a)
+    (same_state (Live a) (same_stream_config config a.config) (stream_told a) (refused no_room a) refl refl) refl
+
 pub leads_change : (a : Stream) (reply : Option Bytes) (config : StreamConfig) (room : Bool) → IsProperWhat (Change reply config) → IsSoundStream a → LeadsOn a (Change reply config) room
-leads_change a reply config room g h = go (same_retention config.retention a.config.retention) (same_stream_config config a.config) refl
+leads_change a reply config false g h = stays a (changed a config false).state h (config_kept a config)
+leads_change a reply config true g h = go (same_retention config.retention a.config.retention) (same_stream_config config a.config) refl
   where
     new : Stream
     new = record a { config = config }

@@ -35,7 +35,7 @@ use Rattle.js_model.specs.Retention.{kept}
 use Rattle.js_model.specs.Verdict.{verdict}
 use Rattle.js_model.specs.Acknowledge.{acknowledged, ends, without, with_due, moved, is_no_delivery}
 use Rattle.js_model.specs.Pulls.{pulled}
-use Rattle.js_model.specs.Events.{settled, settled_state, stream_answer, stream_told, refused, quietly, published, with_message, with_id, without_messages, purge_list, deleted, message_at, message_by, consumer_told, consumer_made, consumer_asked, consumer_dropped, pull_answer, ack_answer, ack_done, after_ack}
+use Rattle.js_model.specs.Events.{settled, settled_state, stream_answer, stream_told, refused, quietly, published, with_message, with_id, without_messages, purge_list, deleted, message_at, message_by, consumer_told, consumer_made, or_no_room, consumer_asked, consumer_dropped, pull_answer, ack_answer, ack_done, after_ack}
 use Rattle.js_model.proofs.Members.{IsIn, here, there, found_in}
 use Rattle.js_model.proofs.Named.{none_some, some_is, same_self, placed_same}
 use Rattle.js_model.proofs.Parts.{filter_part, drop_part, newest_at_part, fitting_at_part}
@@ -50,7 +50,7 @@ use Rattle.effects.specs.TimeEffects.{removals}
 use Rattle.effects.specs.Effects.{first_ended, ended_effects, due_effects, acknowledged_effects, ack_effects, publish_effects, published_skipped, purge_effects, delete_effects, make_effects, made_effects, drop_effects, own_effects, skipped, settle_effects}
 use Rattle.effects.proofs.Agreeing.{map_twice}
 use Rattle.effects.proofs.Replacing.{same_state}
-use Rattle.effects.proofs.OwnStreams.{message_state, told_state}
+use Rattle.effects.proofs.OwnStreams.{config_kept, message_state, told_state}
 use Rattle.effects.proofs.OwnConsumers.{lasting_pulled}
 use Rattle.effects.proofs.Falling.{filter_full, none_fail, no_removals, weight, weight_parts, Falls, Even, falls_both, falls_none, even_first, even_second, falls_only, falls_with}
 
@@ -115,12 +115,13 @@ pub data OwnRests (a : Stream) (what : What) (room : Bool) : Type 0 where
   other : ((s : Stream) → s.last ≡ a.last → length s.consumers ≡ length a.consumers → durable_of (Live s) ≡ durable_of (settled_state (stream_answer a what room).state) → ⊥) → OwnRests a what room
 
 rests_change : (a : Stream) (reply : Option Bytes) (config : StreamConfig) (room : Bool) → OwnRests a (Change reply config) room
-rests_change a reply config room = go (same_retention config.retention a.config.retention) refl
+rests_change a reply config false = falling a (config_kept a config) refl (falls_none a) (λ q. refl)
+rests_change a reply config true = go (same_retention config.retention a.config.retention) refl
   where
     new : Stream
     new = record a { config = config }
 
-    go : (b : Bool) → same_retention config.retention a.config.retention ≡ b → OwnRests a (Change reply config) room
+    go : (b : Bool) → same_retention config.retention a.config.retention ≡ b → OwnRests a (Change reply config) true
     go true e =
         falling new (ap (λ (b : Bool). (cond b (stream_told new) (refused retention_cannot_change a)).state) e) refl
         (record { moment = omega arith; messages = omega arith; ids = omega arith; held = omega arith })
@@ -188,22 +189,22 @@ rests_make a reply name config update room = go update (by_name a.consumers name
     present c = same_state (Live a) (same_consumer_config config c.config) (consumer_told a name) (refused (unwrap_or (first_refusal (queue_checks a name config)) consumer_exists) a) (told_state a (by_name (settled a).consumers name)) refl
 
     state : Bool → Option Consumer → State
-    state update c = (consumer_asked a name config update c).state
+    state update c = (consumer_asked a name config update room c).state
 
-    absent : by_name a.consumers name ≡ None → (e : Option ApiError) → first_refusal (making_checks a name config) ≡ e → OwnRests a (MakeConsumer reply name config false) room
+    absent : by_name a.consumers name ≡ None → (e : Option ApiError) → or_no_room room (first_refusal (making_checks a name config)) ≡ e → OwnRests a (MakeConsumer reply name config false) room
     absent n None r = other (λ s l m q.
         let is : state false (by_name a.consumers name) ≡ Live made = ap (state false) n ∙ ap (λ (e : Option ApiError). (consumer_made a name config e).state) r ∙ told_state made (by_name (settled made).consumers name) in
         let more : length s.consumers ≡ suc (length a.consumers) = length_consumers s (settled made) (body_is s (settled made) (q ∙ ap (λ (st : State). durable_of (settled_state st)) is)) ∙ settled_consumers made ∙ length_with_new (new_consumer a name config) a.consumers in
         absurd (omega arith))
     absent n (Some e) r =
         falling a (ap (state false) n ∙ ap (λ (e : Option ApiError). (consumer_made a name config e).state) r) refl (falls_none a)
-        (λ q. ap (make_effects a name config false) n ∙ ap (made_effects a name config) r)
+        (λ q. ap (make_effects a name config false room) n ∙ ap (made_effects a name config) r)
 
     go : (update : Bool) (c : Option Consumer) → by_name a.consumers name ≡ c → OwnRests a (MakeConsumer reply name config update) room
-    go true None e = falling a (ap (state true) e) refl (falls_none a) (λ q. ap (make_effects a name config true) e)
-    go false None e = absent e (first_refusal (making_checks a name config)) refl
-    go true (Some c) e = falling a (ap (state true) e ∙ present c) refl (falls_none a) (λ q. ap (make_effects a name config true) e)
-    go false (Some c) e = falling a (ap (state false) e ∙ present c) refl (falls_none a) (λ q. ap (make_effects a name config false) e)
+    go true None e = falling a (ap (state true) e) refl (falls_none a) (λ q. ap (make_effects a name config true room) e)
+    go false None e = absent e (or_no_room room (first_refusal (making_checks a name config))) refl
+    go true (Some c) e = falling a (ap (state true) e ∙ present c) refl (falls_none a) (λ q. ap (make_effects a name config true room) e)
+    go false (Some c) e = falling a (ap (state false) e ∙ present c) refl (falls_none a) (λ q. ap (make_effects a name config false room) e)
 
 rests_drop : (a : Stream) (reply : Option Bytes) (name : Bytes) (room : Bool) → OwnRests a (DropConsumer reply name) room
 rests_drop a reply name room = go (by_name a.consumers name) refl

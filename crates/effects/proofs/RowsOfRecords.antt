@@ -1,5 +1,5 @@
 -- Worked rows of the records that events and deliveries write, and of records that do not fit.
-use Rattle.std.specs.Prelude.{ℕ, ◌+◌, ◌≡◌, true, List, [], ◌∷◌, Some, None, codes, refl}
+use Rattle.std.specs.Prelude.{ℕ, ◌+◌, ◌≡◌, true, false, List, [], ◌∷◌, Some, None, codes, refl}
 use Rattle.js_base.specs.Bytes.{Bytes}
 use Rattle.js_model.specs.declared.stream_config.Retention.TheVariants.{Interest, WorkQueue}
 use Rattle.js_model.specs.declared.consumer_config.AckPolicy.TheVariants.{None as NoAck, All as AckAll}
@@ -31,6 +31,10 @@ records_of s what now = event_effects s what now true
 abbrev subject : Bytes
 subject = codes "orders.a"
 
+-- where there is no room
+abbrev records_without : State → What → ℕ → List Effect
+records_without s what now = event_effects s what now false
+
 -- ---- streams and messages
 
 made_at_first : records_of (Vacant 0) (make orders) t0 ≡ MakeStream 1 t0 orders ∷ []
@@ -51,6 +55,26 @@ nothing_changed = refl
 changed : records_of made (Change inbox (record orders { max_msgs = Some 5 })) t0 ≡ ChangeStream (record orders { max_msgs = Some 5 }) ∷ []
 unfolding answered advance advance_outs kept trim verdict
 changed = refl
+
+-- without room nothing is made, changed or stored, and what goes is recorded as ever
+no_stream_made : records_without (Vacant 0) (make orders) t0 ≡ []
+no_stream_made = refl
+
+no_config_changed : records_without made (Change inbox (record orders { max_msgs = Some 5 })) t0 ≡ []
+unfolding answered advance advance_outs kept trim verdict
+no_config_changed = refl
+
+no_consumer_made : records_without made (make_consumer worker) t0 ≡ []
+unfolding answered advance advance_outs kept trim verdict
+no_consumer_made = refl
+
+nothing_stored : records_without made hello (t0 + 1) ≡ Now (t0 + 1) ∷ []
+unfolding answered advance advance_outs kept trim verdict
+nothing_stored = refl
+
+dropped_without : records_without made (DropStream inbox) t0 ≡ StreamDropped ∷ []
+unfolding answered advance advance_outs kept trim verdict
+dropped_without = refl
 
 stored : records_of made hello t0 ≡ PutHere 1 t0 [] subject [] (codes "hello") ∷ []
 unfolding answered advance advance_outs kept trim verdict

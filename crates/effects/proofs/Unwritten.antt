@@ -23,7 +23,7 @@ use Rattle.js_model.specs.Consumers.{empty_stream}
 use Rattle.js_model.specs.Refusals.{numbers_used_up}
 use Rattle.js_model.specs.Retention.{kept}
 use Rattle.js_model.specs.Deliver.{Delivers, IsDelivery}
-use Rattle.js_model.specs.Events.{answered, settled, settled_state, stream_answer, vacant_answer, stream_told, vacantly}
+use Rattle.js_model.specs.Events.{answered, settled, settled_state, stream_answer, vacant_answer, stream_made, vacantly}
 use Rattle.js_model.proofs.Named.{some_is, placed_same, by_name-map, in_place_of-names}
 use Rattle.js_model.proofs.Parts.{filter_part}
 use Rattle.model_laws.specs.Bounds.{IsBoundedConsumer}
@@ -40,7 +40,7 @@ use Rattle.effects.specs.declared.effect.Effect.TheVariants.{MakeStream}
 use Rattle.effects.specs.Durables.{body_of, durable_of}
 use Rattle.effects.specs.Folding.{fold_all}
 use Rattle.effects.specs.TimeEffects.{removals, time_effects}
-use Rattle.effects.specs.Effects.{own_effects, skipped, settle_effects, live_effects, vacant_effects, event_effects, sent_effects, delivery_effects}
+use Rattle.effects.specs.Effects.{own_effects, skipped, settle_effects, live_effects, stream_effects, vacant_effects, event_effects, sent_effects, delivery_effects}
 use Rattle.effects.specs.Laws.{Leads, LawNoRecords, LawNoRecordsSent}
 use Rattle.effects.proofs.Agreeing.{map_twice}
 use Rattle.effects.proofs.Removing.{leads_settled}
@@ -136,36 +136,37 @@ no_records_on s now what room g h b q = go (own_rests (advance s now) what room 
     go (falling t e k f own) = rests t e k f own
     go (other f) = absurd (f s (time_last s now) (time_length s now) q)
 
-no_records_vacant : (i : ℕ) (what : What) (now : ℕ) → durable_of (Vacant i) ≡ durable_of (settled_state (vacant_answer i what now).state) → vacant_effects i what now ≡ []
-no_records_vacant i (Make reply config) now q = go (i + 1 == 2 ^ 62) q
+no_records_vacant : (i : ℕ) (what : What) (now : ℕ) (room : Bool) → durable_of (Vacant i) ≡ durable_of (settled_state (vacant_answer i what now room).state) → vacant_effects i what now room ≡ []
+no_records_vacant i (Make reply config) now room q = go (i + 1 == 2 ^ 62) room q
   where
-    answer : Bool → Answer
-    answer b = cond b (vacantly (Refused numbers_used_up) i) (stream_told (empty_stream (i + 1) config now))
+    answer : (b room : Bool) → Answer
+    answer b room = cond b (vacantly (Refused numbers_used_up) i) (stream_made i config now room)
 
-    go : (b : Bool) → durable_of (Vacant i) ≡ durable_of (settled_state (answer b).state) → cond b [] (MakeStream (i + 1) now config ∷ []) ≡ []
-    go true w = refl
-    go false w = absurd (live_vacant (settled (empty_stream (i + 1) config now)) i (sym w))
-no_records_vacant i (Change reply config) now q = refl
-no_records_vacant i (DropStream reply) now q = refl
-no_records_vacant i (PublishIt p) now q = refl
-no_records_vacant i (Purge reply pattern below keep) now q = refl
-no_records_vacant i (Delete reply n) now q = refl
-no_records_vacant i (MakeConsumer reply name config update) now q = refl
-no_records_vacant i (DropConsumer reply name) now q = refl
-no_records_vacant i (AckIt reply ack) now q = refl
-no_records_vacant i (PullIt reply name ask) now q = refl
-no_records_vacant i Tick now q = refl
-no_records_vacant i (AskStream reply) now q = refl
-no_records_vacant i (MessageGet reply by) now q = refl
-no_records_vacant i (AskConsumer reply name) now q = refl
-no_records_vacant i (ConsumerNames reply offset) now q = refl
-no_records_vacant i (ConsumerList reply offset) now q = refl
+    go : (b room : Bool) → durable_of (Vacant i) ≡ durable_of (settled_state (answer b room).state) → cond b [] (stream_effects i config now room) ≡ []
+    go true room w = refl
+    go false false w = refl
+    go false true w = absurd (live_vacant (settled (empty_stream (i + 1) config now)) i (sym w))
+no_records_vacant i (Change reply config) now room q = refl
+no_records_vacant i (DropStream reply) now room q = refl
+no_records_vacant i (PublishIt p) now room q = refl
+no_records_vacant i (Purge reply pattern below keep) now room q = refl
+no_records_vacant i (Delete reply n) now room q = refl
+no_records_vacant i (MakeConsumer reply name config update) now room q = refl
+no_records_vacant i (DropConsumer reply name) now room q = refl
+no_records_vacant i (AckIt reply ack) now room q = refl
+no_records_vacant i (PullIt reply name ask) now room q = refl
+no_records_vacant i Tick now room q = refl
+no_records_vacant i (AskStream reply) now room q = refl
+no_records_vacant i (MessageGet reply by) now room q = refl
+no_records_vacant i (AskConsumer reply name) now room q = refl
+no_records_vacant i (ConsumerNames reply offset) now room q = refl
+no_records_vacant i (ConsumerList reply offset) now room q = refl
 
 pub law_no_records : LawNoRecords
 unfolding answered
 law_no_records count (Vacant i) new e now reply outs x h b = (
   λ none. same_lasting (Vacant i) new (unchanged (Vacant i) new (event_effects (Vacant i) e.what now x.event.room) (law_events count (Vacant i) new e now reply outs x h b) none),
-  λ same. no_records_vacant i e.what now (same_held (Vacant i) new same ∙ sym (ap (λ (a : Answer). durable_of a.state) x.event.answers)),
+  λ same. no_records_vacant i e.what now x.event.room (same_held (Vacant i) new same ∙ sym (ap (λ (a : Answer). durable_of a.state) x.event.answers)),
 )
 law_no_records count (Live s) new e now reply outs x h b = (
   λ none. same_lasting (Live s) new (unchanged (Live s) new (event_effects (Live s) e.what now x.event.room) (law_events count (Live s) new e now reply outs x h b) none),

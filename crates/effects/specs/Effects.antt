@@ -33,7 +33,7 @@ use Rattle.js_model.specs.Start.{picks_at, cursor_at}
 use Rattle.js_model.specs.Consumers.{making_checks}
 use Rattle.js_model.specs.Retention.{kept}
 use Rattle.js_model.specs.Trim.{trim, trim_subjects, trim_count}
-use Rattle.js_model.specs.Events.{settled, with_message, purge_list, without_messages, message_at, stream_answer}
+use Rattle.js_model.specs.Events.{or_no_room, settled, with_message, purge_list, without_messages, message_at, stream_answer}
 use Rattle.js_model.specs.Runs.{messages_of}
 use Rattle.effects.specs.TimeEffects.{removals, time_effects}
 use Rattle.effects.specs.declared.effect.Effect.{Effect}
@@ -41,10 +41,11 @@ use Rattle.effects.specs.declared.effect.Effect.TheVariants.{MakeStream, ChangeS
 
 -- ---- streams and messages
 
--- another configuration, if it may be taken and differs
-abbrev pub change_effects : Stream → StreamConfig → List Effect
-change_effects s config =
+-- another configuration, if it may be taken, differs and there is room for it
+abbrev pub change_effects : Stream → StreamConfig → Bool → List Effect
+change_effects s config true =
     if same_retention config.retention s.config.retention && not (same_stream_config config s.config) then ChangeStream config ∷ [] else []
+change_effects s config false = []
 
 -- limits or retention drop the new message at once
 abbrev pub is_skipped : Stream → Publish → Bool
@@ -73,10 +74,10 @@ made_effects s name config None =
     ConsumerMade name s.moment config (cursor_at config.deliver_policy config.filter_subject s) (picks_at config.deliver_policy config.filter_subject s) ∷ []
 made_effects s name config (Some e) = []
 
-abbrev pub make_effects : Stream → Bytes → ConsumerConfig → Bool → Option Consumer → List Effect
-make_effects s name config true None = []
-make_effects s name config false None = made_effects s name config (first_refusal (making_checks s name config))
-make_effects s name config update (Some c) = []
+abbrev pub make_effects : Stream → Bytes → ConsumerConfig → Bool → Bool → Option Consumer → List Effect
+make_effects s name config true room None = []
+make_effects s name config false room None = made_effects s name config (or_no_room room (first_refusal (making_checks s name config)))
+make_effects s name config update room (Some c) = []
 
 abbrev pub drop_effects : Option Consumer → List Effect
 drop_effects None = []
@@ -120,12 +121,12 @@ ack_effects s n kind (Some c) = if is_no_delivery c n then [] else acknowledged_
 -- what an event does to a stream at its moment
 abbrev pub own_effects : Stream → What → Bool → List Effect
 own_effects s (Make reply config) room = []
-own_effects s (Change reply config) room = change_effects s config
+own_effects s (Change reply config) room = change_effects s config room
 own_effects s (DropStream reply) room = StreamDropped ∷ []
 own_effects s (PublishIt p) room = publish_effects s p (verdict s p room)
 own_effects s (Purge reply pattern below keep) room = purge_effects s (purge_list s pattern below keep)
 own_effects s (Delete reply n) room = delete_effects s (message_at s n)
-own_effects s (MakeConsumer reply name config update) room = make_effects s name config update (by_name s.consumers name)
+own_effects s (MakeConsumer reply name config update) room = make_effects s name config update room (by_name s.consumers name)
 own_effects s (DropConsumer reply name) room = drop_effects (by_name s.consumers name)
 own_effects s (AckIt reply ack) room = ack_effects s ack.seq ack.kind (by_name s.consumers ack.consumer)
 own_effects s (PullIt reply name ask) room = []
@@ -172,28 +173,33 @@ settle_effects missing (Live s) =
 abbrev pub live_effects : Stream → What → Bool → List Effect
 live_effects s what room = own_effects s what room ++ settle_effects (skipped s what room) (stream_answer s what room).state
 
--- only a stream can be made where there is none
-abbrev pub vacant_effects : ℕ → What → ℕ → List Effect
-vacant_effects i (Make reply config) now = if i + 1 == 2 ^ 62 then [] else MakeStream (i + 1) now config ∷ []
-vacant_effects i (Change reply config) now = []
-vacant_effects i (DropStream reply) now = []
-vacant_effects i (PublishIt p) now = []
-vacant_effects i (Purge reply pattern below keep) now = []
-vacant_effects i (Delete reply n) now = []
-vacant_effects i (MakeConsumer reply name config update) now = []
-vacant_effects i (DropConsumer reply name) now = []
-vacant_effects i (AckIt reply ack) now = []
-vacant_effects i (PullIt reply name ask) now = []
-vacant_effects i Tick now = []
-vacant_effects i (AskStream reply) now = []
-vacant_effects i (MessageGet reply by) now = []
-vacant_effects i (AskConsumer reply name) now = []
-vacant_effects i (ConsumerNames reply offset) now = []
-vacant_effects i (ConsumerList reply offset) now = []
+-- a stream is made, if there is room for it
+abbrev pub stream_effects : ℕ → StreamConfig → ℕ → Bool → List Effect
+stream_effects i config now true = MakeStream (i + 1) now config ∷ []
+stream_effects i config now false = []
 
--- the records of an event at a moment; `room` is whether the store has a block for a message
+-- only a stream can be made where there is none
+abbrev pub vacant_effects : ℕ → What → ℕ → Bool → List Effect
+vacant_effects i (Make reply config) now room = if i + 1 == 2 ^ 62 then [] else stream_effects i config now room
+vacant_effects i (Change reply config) now room = []
+vacant_effects i (DropStream reply) now room = []
+vacant_effects i (PublishIt p) now room = []
+vacant_effects i (Purge reply pattern below keep) now room = []
+vacant_effects i (Delete reply n) now room = []
+vacant_effects i (MakeConsumer reply name config update) now room = []
+vacant_effects i (DropConsumer reply name) now room = []
+vacant_effects i (AckIt reply ack) now room = []
+vacant_effects i (PullIt reply name ask) now room = []
+vacant_effects i Tick now room = []
+vacant_effects i (AskStream reply) now room = []
+vacant_effects i (MessageGet reply by) now room = []
+vacant_effects i (AskConsumer reply name) now room = []
+vacant_effects i (ConsumerNames reply offset) now room = []
+vacant_effects i (ConsumerList reply offset) now room = []
+
+-- the records of an event at a moment; `room` is whether there is room for it
 abbrev pub event_effects : State → What → ℕ → Bool → List Effect
-event_effects (Vacant i) what now room = vacant_effects i what now
+event_effects (Vacant i) what now room = vacant_effects i what now room
 event_effects (Live s) what now room = time_effects s now ++ live_effects (advance s now) what room
 
 -- ---- deliveries

@@ -30,9 +30,9 @@ use Rattle.js_model.specs.Advance.{advance}
 use Rattle.js_model.specs.Configs.{same_stream_config, same_consumer_config, same_retention}
 use Rattle.js_model.specs.Consumers.{empty_stream, making_checks}
 use Rattle.js_model.specs.Deliver.{IsDelivered}
-use Rattle.js_model.specs.Events.{IsEvent, ack_answer, ack_done, ack_reply, answered, consumer_asked, consumer_dropped, consumer_made, consumer_told, deleted, message_at, message_by, message_told, published, pull_answer, refused, settled, settled_state, stream_answer, stream_told, told_of, vacant_answer, vacantly, with_id}
+use Rattle.js_model.specs.Events.{IsEvent, ack_answer, ack_done, ack_reply, answered, consumer_asked, consumer_dropped, consumer_made, consumer_told, deleted, message_at, message_by, message_told, or_no_room, published, pull_answer, refused, settled, settled_state, stream_answer, stream_made, stream_told, told_of, vacant_answer, vacantly, with_config, with_id}
 use Rattle.js_model.specs.Acknowledge.{is_no_delivery}
-use Rattle.js_model.specs.Refusals.{first_refusal, other_config, retention_cannot_change, numbers_used_up}
+use Rattle.js_model.specs.Refusals.{first_refusal, no_room, other_config, retention_cannot_change, numbers_used_up}
 use Rattle.js_model.specs.Retention.{kept}
 use Rattle.js_model.specs.Runs.{RunFrom, new_messages}
 use Rattle.js_model.specs.Streams.{by_name}
@@ -95,10 +95,10 @@ made_named : (s : Stream) (name : Bytes) (config : ConsumerConfig) (checked : Op
 made_named s name config None = found_named _ (by_name (settled _).consumers name)
 made_named s name config (Some e) = refl
 
-asked_named : (s : Stream) (name : Bytes) (config : ConsumerConfig) (update : Bool) (found : Option Consumer) → IsNamed s.config.name (consumer_asked s name config update found)
-asked_named s name config true None = refl
-asked_named s name config false None = made_named s name config (first_refusal (making_checks s name config))
-asked_named s name config update (Some c) =
+asked_named : (s : Stream) (name : Bytes) (config : ConsumerConfig) (update room : Bool) (found : Option Consumer) → IsNamed s.config.name (consumer_asked s name config update room found)
+asked_named s name config true room None = refl
+asked_named s name config false room None = made_named s name config (or_no_room room (first_refusal (making_checks s name config)))
+asked_named s name config update room (Some c) =
     either_named s.config.name (same_consumer_config config c.config) (consumer_told s name) (refused _ s) (found_named s (by_name (settled s).consumers name)) refl
 
 gone_named : (s : Stream) (found : Option Consumer) → IsNamed s.config.name (consumer_dropped s found)
@@ -120,17 +120,20 @@ pulled_named : (s : Stream) (reply : Option Bytes) (ask : Option Ask) (found : O
 pulled_named s reply ask None = refl
 pulled_named s reply ask (Some c) = refl
 
+config_named : (s : Stream) (config : StreamConfig) (room : Bool) → IsNamed s.config.name (with_config s config room)
+config_named s config true = told_named (record s { config = config }) s.config.name
+config_named s config false = either_named s.config.name (same_stream_config config s.config) (stream_told s) (refused no_room s) (told_named s s.config.name) refl
+
 answer_named : (s : Stream) (what : What) (room : Bool) → stream_name (stream_answer s what room).state ≡ name_after s.config.name what (stream_answer s what room).reply
 answer_named s (whats.Make reply config) room =
     either_named s.config.name (same_stream_config config s.config) (stream_told s) (refused other_config s) (told_named s s.config.name) refl
 answer_named s (whats.Change reply config) room =
-    either_named s.config.name (same_retention config.retention s.config.retention) (stream_told (record s { config = config })) (refused retention_cannot_change s)
-    (told_named (record s { config = config }) s.config.name) refl
+    either_named s.config.name (same_retention config.retention s.config.retention) (with_config s config room) (refused retention_cannot_change s) (config_named s config room) refl
 answer_named s (whats.Drop reply) room = refl
 answer_named s (whats.Publish p) room = published_named s p (verdict s p room)
 answer_named s (whats.Purge reply filter below keep) room = refl
 answer_named s (whats.Delete reply seq) room = deleted_named s (message_at s seq)
-answer_named s (whats.MakeConsumer reply name config update) room = asked_named s name config update (by_name s.consumers name)
+answer_named s (whats.MakeConsumer reply name config update) room = asked_named s name config update room (by_name s.consumers name)
 answer_named s (whats.DropConsumer reply name) room = gone_named s (by_name s.consumers name)
 answer_named s (whats.Ack reply ack) room = acked_named s reply ack.seq ack.kind (by_name s.consumers ack.consumer)
 answer_named s (whats.Pull reply consumer ask) room = pulled_named s reply ask (by_name s.consumers consumer)
@@ -141,29 +144,32 @@ answer_named s (whats.ConsumerInfo reply name) room = found_named s (by_name (se
 answer_named s (whats.ConsumerNames reply offset) room = refl
 answer_named s (whats.ConsumerList reply offset) room = refl
 
-vacant_named : (i : ℕ) (what : What) (now : ℕ) → stream_name (vacant_answer i what now).state ≡ name_after [] what (vacant_answer i what now).reply
-vacant_named i (whats.Make reply config) now =
-    either_named [] (i + 1 == 2 ^ 62) (vacantly (Refused numbers_used_up) i) (stream_told (empty_stream (i + 1) config now)) refl
-    (told_named (empty_stream (i + 1) config now) [])
-vacant_named i (whats.Change reply config) now = refl
-vacant_named i (whats.Drop reply) now = refl
-vacant_named i (whats.Publish p) now = refl
-vacant_named i (whats.Purge reply filter below keep) now = refl
-vacant_named i (whats.Delete reply seq) now = refl
-vacant_named i (whats.MakeConsumer reply name config update) now = refl
-vacant_named i (whats.DropConsumer reply name) now = refl
-vacant_named i (whats.Ack reply ack) now = refl
-vacant_named i (whats.Pull reply consumer ask) now = refl
-vacant_named i whats.Tick now = refl
-vacant_named i (whats.StreamInfo reply) now = refl
-vacant_named i (whats.MessageGet reply by) now = refl
-vacant_named i (whats.ConsumerInfo reply name) now = refl
-vacant_named i (whats.ConsumerNames reply offset) now = refl
-vacant_named i (whats.ConsumerList reply offset) now = refl
+stream_made_named : (i : ℕ) (config : StreamConfig) (now : ℕ) (room : Bool) → IsNamed [] (stream_made i config now room)
+stream_made_named i config now true = told_named (empty_stream (i + 1) config now) []
+stream_made_named i config now false = refl
+
+vacant_named : (i : ℕ) (what : What) (now : ℕ) (room : Bool) → stream_name (vacant_answer i what now room).state ≡ name_after [] what (vacant_answer i what now room).reply
+vacant_named i (whats.Make reply config) now room =
+    either_named [] (i + 1 == 2 ^ 62) (vacantly (Refused numbers_used_up) i) (stream_made i config now room) refl (stream_made_named i config now room)
+vacant_named i (whats.Change reply config) now room = refl
+vacant_named i (whats.Drop reply) now room = refl
+vacant_named i (whats.Publish p) now room = refl
+vacant_named i (whats.Purge reply filter below keep) now room = refl
+vacant_named i (whats.Delete reply seq) now room = refl
+vacant_named i (whats.MakeConsumer reply name config update) now room = refl
+vacant_named i (whats.DropConsumer reply name) now room = refl
+vacant_named i (whats.Ack reply ack) now room = refl
+vacant_named i (whats.Pull reply consumer ask) now room = refl
+vacant_named i whats.Tick now room = refl
+vacant_named i (whats.StreamInfo reply) now room = refl
+vacant_named i (whats.MessageGet reply by) now room = refl
+vacant_named i (whats.ConsumerInfo reply name) now room = refl
+vacant_named i (whats.ConsumerNames reply offset) now room = refl
+vacant_named i (whats.ConsumerList reply offset) now room = refl
 
 event_named : (old : State) (e : Event) (now : ℕ) (room : Bool) → stream_name (answered old e now room).state ≡ name_after (stream_name old) e.what (answered old e now room).reply
 unfolding answered
-event_named (Vacant i) e now room = settled_named (vacant_answer i e.what now).state ∙ vacant_named i e.what now
+event_named (Vacant i) e now room = settled_named (vacant_answer i e.what now room).state ∙ vacant_named i e.what now room
 event_named (Live s) e now room =
     settled_named (stream_answer (advance s now) e.what room).state
     ∙ (answer_named (advance s now) e.what room

@@ -15,18 +15,19 @@ use Rattle.desk_hold.specs.Crashes as seen_so
 use Rattle.desk_hold.specs.Crashes.{IsEarlyIn, made_by}
 use Rattle.desk_hold.specs.OnePlace.{HoldsOn, on}
 use Rattle.place_engine.specs.Stepping.{Image, IsKept, Seen}
+use Rattle.place_engine.specs.Preparing.{RoomCauses}
 use Rattle.turn_lock.specs.Seats.{SeatView}
 use Rattle.hub_place.specs.Lasting.{HasLasted, IsOpenedTo}
 use Rattle.hub_place.specs.Ports.{IsRouted, IsWorn}
 use Rattle.hub_place.proofs.Converted.{outlasts_so}
 use Rattle.hub_place.proofs.HeldTimes.{timed_between, timed_fine, timed_here}
 
-module _ {P V : Type 0} (seen : P → Seen) (vol : P → V) (holds : Image → State → Type 0) (reads : V → Image → Type 0) (left : V → ℕ → Image → Type 0) (clock faults : V → ℕ) (base : Option ℕ → V → State → Type 0) (keeps : V → V → Type 0)
+module _ {P V : Type 0} (seen : P → Seen) (vol : P → V) (holds : Image → State → Type 0) (reads : V → Image → Type 0) (left : V → ℕ → Image → Type 0) (clock faults : V → ℕ) (causes : RoomCauses V) (base : Option ℕ → V → State → Type 0) (keeps : V → V → Type 0)
     (bases : (p : P) (b : State) → (seen p).is_base b ↔ base (seen p).place.stopped (vol p) b)
     (leaves : (p : P) (t : ℕ) (image : Image) → (seen p).left_since t image ↔ left (vol p) t image)
-    (stands : (p : P) → ((seen p).place.volume.moment ≡ clock (vol p)) × ((seen p).place.volume.faults ≡ faults (vol p)))
+    (stands : (p : P) → ((seen p).place.volume.moment ≡ clock (vol p)) × ((seen p).place.volume.faults ≡ faults (vol p)) × ((seen p).place.volume.refusals ≡ causes.refusals (vol p)))
     (keeps_more : (a b c : V) → keeps a b → keeps b c → keeps a c) where
-  module _ (p q : P) (kept : IsKept holds (seen q)) (at : PlaceAt) (seat : ℕ) (port after : SeatView) (what : What) (now : ℕ) (outcome : Outcome) (h : HoldsOn IsRouted IsWorn at holds seat what now outcome (seen p) (seen q) port after) where
+  module _ (p q : P) (kept : IsKept holds (seen q)) (at : PlaceAt) (seat : ℕ) (port after : SeatView) (what : What) (now : ℕ) (outcome : Outcome) (h : HoldsOn IsRouted IsWorn at holds causes.outgrows_log seat what now outcome (seen p) (seen q) port after) where
     abbrev timed : List Timed
     timed = timed_at at.place h.entries
 
@@ -37,7 +38,7 @@ module _ {P V : Type 0} (seen : P → Seen) (vol : P → V) (holds : Image → S
     hold_outlasts =
         let old = on (seen p).place port in let new = on (seen q).place after in
         let moments = timed_between IsRouted IsWorn at h.entries old new h.led in
-        outlasts_so seen vol holds reads left clock faults base bases leaves stands p q kept (IsEarlyIn h.entries) timed moments.later moments.between
+        outlasts_so seen vol holds reads left clock faults causes base bases leaves stands p q kept (IsEarlyIn h.entries) timed moments.later moments.between
         (timed_fine IsRouted IsWorn at what now outcome h.entries old new h.holds h.led)
         (subst (λ (es : List PlaceEntry). seen_so.Outlasts holds (IsEarlyIn h.entries) es (seen p) (seen q)) (sym timed_are) h.outlasts)
 

@@ -3,7 +3,6 @@ mod HeldTimes
 mod Lasts
 mod Sending
 mod Standings
-mod Calm
 mod Steps
 mod Made
 mod Heard

@@ -1,9 +1,10 @@
 -- A hold in a turn of its place: the seat goes on by the entries of the hold, and the place with its port stands for what it had seen and these.
-use Rattle.std.proofs.Common.{◌≡◌, ◌++◌, ◌≤◌, ℕ, true, false, List, [], ◌∷◌, Option, refl, sym, ap, subst, ◌∙◌, inl, inr, arith}
-use Rattle.std.specs.Prelude.{◌↔◌}
+use Rattle.std.proofs.Common.{◌≡◌, ◌++◌, ◌≤◌, ℕ, true, List, [], ◌∷◌, Option, refl, sym, ap, subst, ◌∙◌, inl, inr, arith}
+use Rattle.std.specs.Prelude.{◌↔◌, IfSome}
 use Rattle.std.specs.List.{AllByRecursion}
 use Rattle.atomic_table.specs.Seated.{TableId}
 use Rattle.js_base.specs.Bytes.{has}
+use Rattle.js_base.specs.Causes.{Rose}
 use Rattle.js_model.specs.declared.stream.State.{State}
 use Rattle.js_model.specs.declared.event.What.{What}
 use Rattle.js_model.specs.declared.desk.PlaceAt.{PlaceAt}
@@ -23,11 +24,11 @@ use Rattle.hub_fronts.specs.Laws.{LawSends}
 use Rattle.hub_fronts.proofs.Seen.{seen_inside}
 use Rattle.desk_hold.specs.OnePlace.{HoldsOn, on}
 use Rattle.place_engine.specs.Stepping.{Image, IsKept, Seen}
+use Rattle.place_engine.specs.Preparing.{RoomCauses}
 use Rattle.hub_place.specs.Holds.{HoldsBySeat, IsMadeBy, SeatStep, SendsTo, unmade}
 use Rattle.hub_place.specs.Kinds.{IsHubPlace, IsNewPlace, IsNewPort, PlaceIs, opening_of}
 use Rattle.hub_place.specs.Lasting.{HasLasted}
 use Rattle.hub_place.specs.Ports.{HasSent, IsOfPort, IsRouted, IsWorn, own_calls, published}
-use Rattle.hub_place.proofs.Calm.{holds_calm}
 use Rattle.hub_place.proofs.Lasts.{lasts_new, lasts_on}
 use Rattle.hub_place.proofs.Steps.{Sits, leaving, left_by, made_by_seat}
 
@@ -56,9 +57,9 @@ module _ {V : Type 0} (holds : Image → State → Type 0) (left : V → ℕ →
       stored = new.counted;
       opened = place.volume;
       count = refl;
-      later = record { faults = omega arith; moments = omega arith; generations = omega arith };
-      full = false;
-      stops = (new.going, refl);
+      later = record { faults = omega arith; refusals = omega arith; moments = omega arith; generations = omega arith };
+      whole = λ going. refl;
+      stops = subst (λ (o : Option ℕ). IfSome o (λ count. (count ≡ place.volume.faults) × Rose place.volume.faults count)) (sym new.going) tt;
     };
     seat = record { lock = refl; numbers = subst (λ (s : SeatView). s.numbers ≡ number_of s ∷ []) (sym fresh.is_new) refl };
     sent = record {
@@ -75,16 +76,16 @@ module _ {V : Type 0} (holds : Image → State → Type 0) (left : V → ℕ →
 
 -- ---- a hold
 
-module _ {P V : Type 0} (seen : P → Seen) (vol : P → V) (holds : Image → State → Type 0) (reads : V → Image → Type 0) (left : V → ℕ → Image → Type 0) (clock faults : V → ℕ) (base : Option ℕ → V → State → Type 0) (keeps : V → V → Type 0)
+module _ {P V : Type 0} (seen : P → Seen) (vol : P → V) (holds : Image → State → Type 0) (reads : V → Image → Type 0) (left : V → ℕ → Image → Type 0) (clock faults : V → ℕ) (causes : RoomCauses V) (base : Option ℕ → V → State → Type 0) (keeps : V → V → Type 0)
     (bases : (p : P) (b : State) → (seen p).is_base b ↔ base (seen p).place.stopped (vol p) b)
     (leaves : (p : P) (t : ℕ) (image : Image) → (seen p).left_since t image ↔ left (vol p) t image)
-    (stands : (p : P) → ((seen p).place.volume.moment ≡ clock (vol p)) × ((seen p).place.volume.faults ≡ faults (vol p)))
+    (stands : (p : P) → ((seen p).place.volume.moment ≡ clock (vol p)) × ((seen p).place.volume.faults ≡ faults (vol p)) × ((seen p).place.volume.refusals ≡ causes.refusals (vol p)))
     (keeps_more : (a b c : V) → keeps a b → keeps b c → keeps a c) where
   module _ (p q : P) (kept : IsKept holds (seen q)) (at : PlaceAt) (inside port after : SeatView) (what : What) (now : ℕ) (outcome : Outcome) (entries : List Entry) (number : ℕ)
       (is : PlaceIs holds left clock base keeps inside.opening inside.front (seen p).place (vol p) port) (among : has inside.numbers number ≡ true) (number_is : number ≡ number_of inside)
-      (made : IsMadeBy holds at number what now outcome (seen p) (seen q) port after entries) (volume : keeps (vol p) (vol q)) (sends : LawSends) where
-    mine : IsMadeBy holds at (number_of inside) what now outcome (seen p) (seen q) port after entries
-    mine = subst (λ (n : ℕ). IsMadeBy holds at n what now outcome (seen p) (seen q) port after entries) number_is made
+      (made : IsMadeBy holds causes.outgrows_log at number what now outcome (seen p) (seen q) port after entries) (volume : keeps (vol p) (vol q)) (sends : LawSends) where
+    mine : IsMadeBy holds causes.outgrows_log at (number_of inside) what now outcome (seen p) (seen q) port after entries
+    mine = subst (λ (n : ℕ). IsMadeBy holds causes.outgrows_log at n what now outcome (seen p) (seen q) port after entries) number_is made
 
     -- they are by the seat
     pub by_seat : AreBy (number_of inside) entries
@@ -103,13 +104,13 @@ module _ {P V : Type 0} (seen : P → Seen) (vol : P → V) (holds : Image → S
             let sits : Sits state count id inside.front steps (on (seen p).place port) = record { stands = record { standing = h.standing; are = refl }; port = record { seat = h.seat; sent = h.sent } } in
             let l = leaving state count id at sends inside steps mine.hold.entries (on (seen p).place port) (on (seen q).place after)
             (record { opening = opening; among = subst (λ (n : ℕ). has inside.numbers n ≡ true) number_is among }) mine.hold.by
-            (holds_calm at what now outcome mine.hold.entries mine.hold.holds) mine.hold.led sits in
+            mine.hold.led sits in
             let hub : IsHubPlace holds left clock base keeps state count id (inside.front ++ left_by mine.hold.entries) (seen q).place (vol q) after = record {
               standing = l.sits.stands.standing;
               seat = l.sits.port.seat;
               sent = subst (λ (es : List PlaceEntry). HasSent after (outs_of state es)) (sym l.sits.stands.are) l.sits.port.sent;
               lasts = subst (λ (es : List PlaceEntry). HasLasted holds left clock base keeps state es (seen q).place (vol q)) (sym l.sits.stands.are)
-                  (lasts_on seen vol holds reads left clock faults base keeps bases leaves stands keeps_more p q kept at (number_of inside) port after what now outcome mine.hold state steps volume h.lasts);
+                  (lasts_on seen vol holds reads left clock faults causes base keeps bases leaves stands keeps_more p q kept at (number_of inside) port after what now outcome mine.hold state steps volume h.lasts);
             } in
             record {
               led = subst (λ (es : List Entry). Leads (SeatStep at) inside mine.hold.entries (added inside es)) (sym mine.entries_are) l.led;
@@ -138,12 +139,12 @@ module _ {P V : Type 0} (seen : P → Seen) (vol : P → V) (holds : Image → S
     }
 
 -- the entries that it made may be noted
-pub noted : (in_image : Image → State → Type 0) (at : PlaceAt) (number : ℕ) (what : What) (now : ℕ) (outcome : Outcome) (old new : Seen) (port before after told : SeatView) → before ≡ port → told ≡ after
-    → HoldsOn IsRouted IsWorn at in_image number what now outcome old new before after → (entries : List Entry) × IsMadeBy in_image at number what now outcome old new port told entries
-noted in_image at number what now outcome old new port before after told was is h =
-    let mine : HoldsOn IsRouted IsWorn at in_image number what now outcome old new port told =
-    subst (λ (s : SeatView). HoldsOn IsRouted IsWorn at in_image number what now outcome old new s told) was
-    (subst (λ (s : SeatView). HoldsOn IsRouted IsWorn at in_image number what now outcome old new before s) (sym is) h)
+pub noted : (in_image : Image → State → Type 0) (outgrows : State → What → Type 0) (at : PlaceAt) (number : ℕ) (what : What) (now : ℕ) (outcome : Outcome) (old new : Seen) (port before after told : SeatView) → before ≡ port → told ≡ after
+    → HoldsOn IsRouted IsWorn at in_image outgrows number what now outcome old new before after → (entries : List Entry) × IsMadeBy in_image outgrows at number what now outcome old new port told entries
+noted in_image outgrows at number what now outcome old new port before after told was is h =
+    let mine : HoldsOn IsRouted IsWorn at in_image outgrows number what now outcome old new port told =
+    subst (λ (s : SeatView). HoldsOn IsRouted IsWorn at in_image outgrows number what now outcome old new s told) was
+    (subst (λ (s : SeatView). HoldsOn IsRouted IsWorn at in_image outgrows number what now outcome old new before s) (sym is) h)
     in
     (left_by mine.entries, record { hold = mine; entries_are = refl })
 

@@ -14,7 +14,7 @@ use Rattle.js_api.specs.Worlds.{IsHeld, IsLater, IsStirred, Stops, is_broken}
 use Rattle.histories.specs.Entries.{Entry, AtPlace}
 use Rattle.hub_fronts.specs.Laws.{LawSends}
 use Rattle.hub_fronts.specs.Standing.{IsStanding}
-use Rattle.std.specs.Prelude.{◌+◌, length}
+use Rattle.std.specs.Prelude.{◌+◌, IfSome, length}
 use Rattle.js_api.proofs.RunParts.{run_from_more, total_from_more}
 
 -- ---- a run with what it counts
@@ -84,13 +84,14 @@ broken_append (Step seat e now reply outs unsaid ∷ a) b whole = broken_append 
 broken_append (Deliver seat now listening d outs ∷ a) b whole = broken_append a b whole
 broken_append (Broken seat now call ∷ a) b whole = let no : ⊥ = cc in absurd no
 
-not_broken : (broken full : Bool) (before after : VolumeAt) (stopped : Option ℕ) → Stops broken full before after stopped → stopped ≡ None → broken ≡ false
-not_broken true full before after stopped h going = let no : ⊥ = cc (h.0, going) in absurd no
-not_broken false full before after stopped h going = refl
+not_broken : (broken : Bool) (before after : VolumeAt) (stopped : Option ℕ) → Stops broken before after stopped → stopped ≡ None → broken ≡ false
+not_broken true before after stopped h going = let no : ⊥ = cc (h.0, going) in absurd no
+not_broken false before after stopped h going = refl
 
 pub later_both : (a b c : VolumeAt) → IsLater a b → IsLater b c → IsLater a c
 later_both a b c f g = record {
   faults = omega (arith, f.faults, g.faults);
+  refusals = omega (arith, f.refusals, g.refusals);
   moments = omega (arith, f.moments, g.moments);
   generations = omega (arith, f.generations, g.generations);
 }
@@ -98,9 +99,13 @@ later_both a b c f g = record {
 rose_since : (start before after : ℕ) → start ≤ before → Rose before after → Rose start after
 rose_since start before after le h = omega (arith, le, h)
 
-stops_since : (broken full : Bool) (start before after : VolumeAt) (stopped : Option ℕ) → IsLater start before → Stops broken full before after stopped → Stops broken full start after stopped
-stops_since true full start before after stopped later h = (h.0, λ e. rose_since start.faults before.faults after.faults later.faults (h.1 e))
-stops_since false full start before after stopped later h = h
+-- a place that was stopped since
+abbrev StoppedSince : VolumeAt → VolumeAt → Option ℕ → Type 0
+StoppedSince start after stopped = IfSome stopped (λ count. (count ≡ after.faults) × Rose start.faults count)
+
+stopped_since : (failed : Bool) (start before after : VolumeAt) (stopped : Option ℕ) → IsLater start before → Stops failed before after stopped → StoppedSince start after stopped
+stopped_since true start before after stopped later h = subst (StoppedSince start after) (sym h.0) (refl, rose_since start.faults before.faults after.faults later.faults h.1)
+stopped_since false start before after stopped later h = subst (StoppedSince start after) (sym h) tt
 
 -- ---- what stands
 
@@ -111,7 +116,7 @@ pub record StandsBy (state : State) (faults : ℕ) (entries : List Entry) (steps
 
 module _ (state : State) (faults : ℕ) (entries : List Entry) (old : PlaceIn) (s : IsStanding state faults entries old) where
   pub whole_so_far : old.stopped ≡ None → is_broken s.steps ≡ false
-  whole_so_far going = not_broken (is_broken s.steps) s.full s.opened old.volume old.stopped s.stops going
+  whole_so_far going = s.whole going
 
   module _ (hold : Hold) (new : PlaceIn) (held : IsHeld hold old new) where
     abbrev count : ℕ
@@ -142,11 +147,10 @@ module _ (state : State) (faults : ℕ) (entries : List Entry) (old : PlaceIn) (
         opened = s.opened;
         count = s.count;
         later = later_now;
-        full = hold.full;
-        stops =
-            subst (λ (b : Bool). Stops b hold.full s.opened new.volume new.stopped) (sym (broken_append s.steps (entries_in hold) (whole_so_far held.going)))
-            (subst (λ (v : VolumeAt). Stops (is_broken (entries_in hold)) hold.full s.opened v new.stopped) (sym held.volume_is)
-            (stops_since (is_broken (entries_in hold)) hold.full s.opened hold.volume_before hold.volume_after new.stopped (subst (λ (v : VolumeAt). IsLater s.opened v) held.volume_was s.later) held.stops));
+        whole = λ going. broken_append s.steps (entries_in hold) (whole_so_far held.going)
+            ∙ not_broken (is_broken (entries_in hold)) hold.volume_before hold.volume_after new.stopped held.stops going;
+        stops = subst (λ (v : VolumeAt). StoppedSince s.opened v new.stopped) (sym held.volume_is)
+            (stopped_since (is_broken (entries_in hold)) s.opened hold.volume_before hold.volume_after new.stopped (subst (λ (v : VolumeAt). IsLater s.opened v) held.volume_was s.later) held.stops);
       };
       are = refl;
     }
@@ -157,9 +161,9 @@ module _ (state : State) (faults : ℕ) (entries : List Entry) (old : PlaceIn) (
         law count state s.steps old.state (entries_in hold) s.run (λ broken. absurd (let whole : is_broken s.steps ≡ false = whole_so_far held.going in cc (broken, whole)))
         ∙ ap (λ (a : State). outs_of state s.steps ++ outs_of a (entries_in hold)) held.was
 
-  -- its volume was called, and did not fail
-  pub stands_stirred : (before after : VolumeAt) (new : PlaceIn) → IsStirred before after false old new → StandsBy state faults entries s.steps new
-  stands_stirred before after new h = record {
+  -- its volume was called
+  pub stands_stirred : (before after : VolumeAt) (failed : Bool) (new : PlaceIn) → IsStirred before after failed old new → StandsBy state faults entries s.steps new
+  stands_stirred before after failed new h = record {
     standing = record {
       steps = s.steps;
       same = s.same;
@@ -168,8 +172,9 @@ module _ (state : State) (faults : ℕ) (entries : List Entry) (old : PlaceIn) (
       opened = s.opened;
       count = s.count;
       later = subst (λ (v : VolumeAt). IsLater s.opened v) (sym h.volume_is) (later_both s.opened before after (subst (λ (v : VolumeAt). IsLater s.opened v) h.volume_was s.later) h.later);
-      full = false;
-      stops = subst (λ (b : Bool). Stops b false s.opened new.volume new.stopped) (sym (whole_so_far h.going)) (h.stops.0, refl);
+      whole = λ going. whole_so_far h.going;
+      stops = subst (λ (v : VolumeAt). StoppedSince s.opened v new.stopped) (sym h.volume_is)
+          (stopped_since failed s.opened before after new.stopped (subst (λ (v : VolumeAt). IsLater s.opened v) h.volume_was s.later) h.stops);
     };
     are = refl;
   }

@@ -1,5 +1,5 @@
 -- The entries of a hold lead the seat of the caller, and what stands at the place with its port.
-use Rattle.std.proofs.Common.{◌≡◌, ◌≢◌, ◌++◌, ℕ, Bool, true, List, [], ◌∷◌, map, append_assoc, append-nil, refl, sym, ap, subst, ◌∙◌}
+use Rattle.std.proofs.Common.{◌≡◌, ◌≢◌, ◌++◌, ℕ, true, List, [], ◌∷◌, map, append_assoc, append-nil, refl, sym, ap, subst, ◌∙◌}
 use Rattle.std.proofs.lemmas.List.{map-append}
 use Rattle.std.specs.List.{AllByRecursion}
 use Rattle.js_base.specs.Bytes.{has}
@@ -20,11 +20,10 @@ use Rattle.hub_fronts.specs.Standing.{IsStanding, StandsAt}
 use Rattle.hub_fronts.specs.Stepping.{LeavesAt}
 use Rattle.desk_hold.specs.Crashes.{made_by}
 use Rattle.desk_hold.specs.OnePlace as holds
-use Rattle.desk_hold.specs.OnePlace.{OnPlace, PlaceStep, IsHeldOn, IsStirredOn, IsHaltedOn, IsMissedOn}
+use Rattle.desk_hold.specs.OnePlace.{OnPlace, PlaceStep, IsHeldOn}
 use Rattle.hub_place.specs.Histories.{stands_so}
 use Rattle.hub_place.specs.Holds.{SeatStep}
 use Rattle.hub_place.specs.Ports.{IsRouted, IsWorn}
-use Rattle.hub_place.proofs.Calm.{AreCalm}
 use Rattle.hub_place.proofs.Sending.{Port, heard_all, sent_all, sending_told}
 use Rattle.hub_place.proofs.Standings.{StandsBy, held_sends, stands_held, stands_stirred}
 
@@ -152,43 +151,42 @@ module _ (state : State) (faults : ℕ) (id : SeatId) (at : PlaceAt) (sends : La
   same_sits : (front a : List Entry) (steps b : List PlaceEntry) (new : OnPlace SeatView) → a ≡ front → b ≡ steps → Sits state faults id a b new → Sits state faults id front steps new
   same_sits front a steps b new p q s = subst (λ (f : List Entry). Sits state faults id f steps new) p (subst (λ (es : List PlaceEntry). Sits state faults id a es new) q s)
 
-  pub leaving : (seat : SeatView) (steps : List PlaceEntry) (entries : List DeskEntry) (old new : OnPlace SeatView) → IsIn seat → holds.AreBy (number_of seat) entries → AreCalm entries → Leads Step old entries new
+  pub leaving : (seat : SeatView) (steps : List PlaceEntry) (entries : List DeskEntry) (old new : OnPlace SeatView) → IsIn seat → holds.AreBy (number_of seat) entries → Leads Step old entries new
       → Sits state faults id seat.front steps old → Leaving seat steps entries new
-  leaving seat steps [] old new into by calm led sits = record {
+  leaving seat steps [] old new into by led sits = record {
     sits = subst (Sits state faults id (seat.front ++ []) (steps ++ [])) led (same_sits (seat.front ++ []) seat.front (steps ++ []) steps old (sym (append-nil seat.front)) (sym (append-nil steps)) sits);
     led = same_added seat;
   }
-  leaving seat steps (Routed call told ∷ more) old new into by calm led sits = absurd led.1
-  leaving seat steps (Looked joined call told ∷ more) old new into by calm led sits = absurd led.1
-  leaving seat steps (Turned after found ∷ more) old new into by calm led sits = absurd led.1
-  leaving seat steps (Resumed last ∷ more) old new into by calm led sits = absurd led.1
-  leaving seat steps (Held hold ∷ more) old new into by calm led sits =
+  leaving seat steps (Routed call told ∷ more) old new into by led sits = absurd led.1
+  leaving seat steps (Looked joined call told ∷ more) old new into by led sits = absurd led.1
+  leaving seat steps (Turned after found ∷ more) old new into by led sits = absurd led.1
+  leaving seat steps (Resumed last ∷ more) old new into by led sits = absurd led.1
+  leaving seat steps (Held hold ∷ more) old new into by led sits =
       let left : List Entry = map AtPlace (entries_in hold) in
       let mid : SeatView = added seat left in
       let one = held_step hold seat steps old led.0 into by.0 led.1 sits in
-      let rest : Leaving mid (steps ++ entries_in hold) more new = leaving mid (steps ++ entries_in hold) more led.0 new (record { opening = into.opening; among = into.among }) by.1 calm led.2 one.0 in
+      let rest : Leaving mid (steps ++ entries_in hold) more new = leaving mid (steps ++ entries_in hold) more led.0 new (record { opening = into.opening; among = into.among }) by.1 led.2 one.0 in
       let whole : left ++ left_by more ≡ left_by (Held hold ∷ more) = sym (left_more hold more) in
       record {
         sits = same_sits (seat.front ++ left_by (Held hold ∷ more)) ((seat.front ++ left) ++ left_by more) (steps ++ made_by (Held hold ∷ more)) ((steps ++ entries_in hold) ++ made_by more) new
             (append_assoc seat.front left (left_by more) ∙ ap (λ (es : List Entry). seat.front ++ es) whole) (append_assoc steps (entries_in hold) (made_by more)) rest.sits;
         led = (mid, one.1, subst (Leads (SeatStep at) mid more) (added_twice seat left (left_by more) ∙ ap (added seat) whole) rest.led);
       }
-  leaving seat steps (Stirred where_at before after failed ∷ more) old new into by calm led sits =
+  leaving seat steps (Stirred where_at before after failed ∷ more) old new into by led sits =
       let s = sits.stands.standing in
-      let stirred = subst (λ (b : Bool). IsStirredOn IsRouted IsWorn at where_at before after b old led.0) calm.0 led.1 in
-      let next = stands_stirred state faults seat.front old.place s before after led.0.place stirred.stirred in
+      let next = stands_stirred state faults seat.front old.place s before after failed led.0.place led.1.stirred in
       let still : Sits state faults id seat.front steps led.0 = record { stands = record { standing = next.standing; are = next.are ∙ sits.stands.are }; port = subst (λ (p : SeatView). Port id p (outs_of state steps)) (sym led.1.port) sits.port } in
       behind_quiet seat steps (Stirred where_at before after failed) more new refl
       (led.1.at_is, record { was = old.place; is = led.0.place; leaves = quietly seat old.place led.0.place into s next.standing; stirred = led.1.stirred })
-      (leaving seat steps more led.0 new into by.1 calm.1 led.2 still)
-  leaving seat steps (Halted where_at found ∷ more) old new into by calm led sits =
+      (leaving seat steps more led.0 new into by.1 led.2 still)
+  leaving seat steps (Halted where_at found ∷ more) old new into by led sits =
       let s = sits.stands.standing in
       behind_quiet seat steps (Halted where_at found) more new refl
       (led.1.at_is, record { was = old.place; leaves = quietly seat old.place old.place into s s; count = led.1.count; stopped = led.1.stopped; state_is = led.1.state_is })
-      (leaving seat steps more led.0 new into by.1 calm led.2 (subst (Sits state faults id seat.front steps) (sym led.1.same) sits))
-  leaving seat steps (Missed where_at kept ∷ more) old new into by calm led sits =
+      (leaving seat steps more led.0 new into by.1 led.2 (subst (Sits state faults id seat.front steps) (sym led.1.same) sits))
+  leaving seat steps (Missed where_at kept ∷ more) old new into by led sits =
       let s = sits.stands.standing in
       behind_quiet seat steps (Missed where_at kept) more new refl
       (led.1.at_is, record { was = old.place; leaves = quietly seat old.place old.place into s s; going = led.1.going; kept_is = led.1.kept_is; other = subst (λ (a : PlaceAt). kept ≢ a.incarnation) (sym led.1.at_is) led.1.other })
-      (leaving seat steps more led.0 new into by.1 calm led.2 (subst (Sits state faults id seat.front steps) (sym led.1.same) sits))
-  leaving seat steps (Spent number ∷ more) old new into by calm led sits = absurd led.1
+      (leaving seat steps more led.0 new into by.1 led.2 (subst (Sits state faults id seat.front steps) (sym led.1.same) sits))
+  leaving seat steps (Spent number ∷ more) old new into by led sits = absurd led.1

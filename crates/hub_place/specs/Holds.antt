@@ -58,6 +58,6 @@ unmade ticket = record { became = Nothing; ready = false; fault = Some (Worn tic
 -- ---- what stands of a hold in the history of its place
 
 -- these are the entries that a hold by the port made there, all by the seat of this number
-pub record IsMadeBy (in_image : Image → State → Type 0) (at : PlaceAt) (number : ℕ) (what : What) (now : ℕ) (outcome : Outcome) (old new : Seen) (port after : SeatView) (entries : List Entry) : Type 0 where
-  pub hold : HoldsOn IsRouted IsWorn at in_image number what now outcome old new port after
+pub record IsMadeBy (in_image : Image → State → Type 0) (outgrows : State → What → Type 0) (at : PlaceAt) (number : ℕ) (what : What) (now : ℕ) (outcome : Outcome) (old new : Seen) (port after : SeatView) (entries : List Entry) : Type 0 where
+  pub hold : HoldsOn IsRouted IsWorn at in_image outgrows number what now outcome old new port after
   pub entries_are : entries ≡ map AtPlace (made_by hold.entries)

@@ -44,7 +44,7 @@ struct EntriesMade<P> {
 }
 
 impl<'a, P: Place> Fits<HoldMade<'a, P>, Past> for EntriesMade<P> {
-    ghost fits = { λ m entries. IsMadeBy P.holds m.at m.number.now.value m.what.now.value m.now m.outcome.now (P.seen m.before.now.value.place) (P.seen m.after.now.place) m.before.now.value.port m.after.now.port entries };
+    ghost fits = { λ m entries. IsMadeBy P.holds P.room_causes.outgrows_log m.at m.number.now.value m.what.now.value m.now m.outcome.now (P.seen m.before.now.value.place) (P.seen m.after.now.place) m.before.now.value.port m.after.now.port entries };
 }
 
 /// Asks this of the stream of a place at a moment, in a turn of this seat, and sends all that this sends by the port of the place before the turn is left.
@@ -107,7 +107,7 @@ fn hold_by<P: Place, W: Wait>(
 ) -> (Outcome, HubPlace<P>, Entries)
     requires own { hub.port.lock ≡ router.now.lock }
     requires asked { MayAsk what }
-    ensures made { IsMadeBy P.holds at number.now.value what now result.0 (P.seen hub.place) (P.seen result.1.place) hub.port result.1.port result.2.value }
+    ensures made { IsMadeBy P.holds P.room_causes.outgrows_log at number.now.value what now result.0 (P.seen hub.place) (P.seen result.1.place) hub.port result.1.port result.2.value }
     ensures kept { IsKept P.holds (P.seen result.1.place) }
     ensures vol { P.keeps_vol (P.vol hub.place) (P.vol result.1.place) }
     ensures shown { CanBeShown result.0.became }

@@ -136,7 +136,7 @@ pub record PlaceLed (place : ℕ) (before : PlaceIn) (entries : List DeskEntry) 
 
 -- a broken hold leaves the place stopped
 stopped_by : (hold : Hold) (old new : PlaceIn) → IsHeld hold old new → is_broken (entries_in hold) ≡ true → new.stopped ≡ Some hold.volume_after.faults
-stopped_by hold old new held broken = (subst (λ (b : Bool). Stops b hold.full hold.volume_before hold.volume_after new.stopped) broken held.stops).0
+stopped_by hold old new held broken = (subst (λ (b : Bool). Stops b hold.volume_before hold.volume_after new.stopped) broken held.stops).0
 
 led_on : (place : ℕ) (entry : DeskEntry) (before : PlaceIn) (entries : List DeskEntry) (mid new : Scene) → Stays place entry before mid
     → ((p : PlaceIn) → slice_get mid.world.places place ≡ Some p → PlaceLed place p entries new) → PlaceLed place before (entry ∷ entries) new

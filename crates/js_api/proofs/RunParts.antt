@@ -1,6 +1,6 @@
 -- Runs of a place: from a larger count, and one behind another.
-use Rattle.std.proofs.Common.{◌≡◌, ◌≤◌, ◌<◌, ◌+◌, ◌++◌, ℕ, true, false, List, [], ◌∷◌, length, append-nil, refl, sym, subst, ◌∙◌, ap, arith, inl, inr}
-use Rattle.std.proofs.lemmas.Bool.{ltb-true, lt-ltb, cases_Bool}
+use Rattle.std.proofs.Common.{◌≡◌, ◌≤◌, ◌+◌, ◌++◌, ℕ, true, false, List, [], ◌∷◌, length, append-nil, refl, sym, subst, ◌∙◌, ap, arith, inl, inr}
+use Rattle.std.proofs.lemmas.Bool.{cases_Bool}
 use Rattle.js_base.specs.declared.out.Out.{Out}
 use Rattle.js_model.specs.declared.stream.State.{State}
 use Rattle.js_model.specs.declared.event.Event.{Event}
@@ -8,22 +8,16 @@ use Rattle.js_model.specs.declared.reply.Reply.{Reply}
 use Rattle.js_model.specs.declared.entry.PlaceEntry.{PlaceEntry}
 use Rattle.js_model.specs.declared.entry.PlaceEntry.TheVariants.{Step, Deliver, Broken}
 use Rattle.js_model.specs.declared.entry.Call.TheVariants.{Step as StepOf, Deliver as DeliverOf}
-use Rattle.js_model.specs.Runs.{IsStep, RunFrom, is_few, new_messages, total_of}
+use Rattle.js_model.specs.Runs.{IsStep, RunFrom, new_messages, total_of}
 use Rattle.js_api.specs.Worlds.{is_broken}
 
 -- ---- larger counts
 
-few_before : (n m : ℕ) → n ≤ m → is_few m ≡ true → is_few n ≡ true
-few_before n m le few =
-    let below : m < 65533 = ltb-true m 65533 few in
-    lt-ltb n 65533 (omega (arith, le, below))
-
-step_from_more : (n m : ℕ) (old : State) (e : Event) (now : ℕ) (reply : Reply) (outs : List Out) (new : State) → n ≤ m → IsStep n old e now reply outs new → IsStep m old e now reply outs new
-step_from_more n m old e now reply outs new le step = record {
+step_from_more : (n m : ℕ) (old : State) (e : Event) (now : ℕ) (reply : Reply) (outs : List Out) (new : State) → IsStep n old e now reply outs new → IsStep m old e now reply outs new
+step_from_more n m old e now reply outs new step = record {
   event = step.event;
   proper = step.proper;
   moment = step.moment;
-  free = λ few. step.free (few_before n m le few);
 }
 
 both_more : (n m k : ℕ) → n ≤ m → n + k ≤ m + k
@@ -34,11 +28,11 @@ pub run_from_more : (n m : ℕ) (old : State) (entries : List PlaceEntry) (new :
 run_from_more n m old [] new le run = run
 run_from_more n m old (Step seat e now reply outs unsaid ∷ entries) new le (mid, step, rest) =
     let k = length (new_messages old mid) in
-    (mid, step_from_more n m old e now reply outs mid le step, run_from_more (n + k) (m + k) mid entries new (both_more n m k le) rest)
+    (mid, step_from_more n m old e now reply outs mid step, run_from_more (n + k) (m + k) mid entries new (both_more n m k le) rest)
 run_from_more n m old (Deliver seat now listening d outs ∷ entries) new le (mid, step, rest) =
     let k = length (new_messages old mid) in
     (mid, step, run_from_more (n + k) (m + k) mid entries new (both_more n m k le) rest)
-run_from_more n m old (Broken seat now (StepOf e) ∷ []) new le (reply, outs, step) = (reply, outs, step_from_more n m old e now reply outs new le step)
+run_from_more n m old (Broken seat now (StepOf e) ∷ []) new le (reply, outs, step) = (reply, outs, step_from_more n m old e now reply outs new step)
 run_from_more n m old (Broken seat now (DeliverOf listening d) ∷ []) new le run = run
 run_from_more n m old (Broken seat now call ∷ entry ∷ entries) new le run = absurd run
 

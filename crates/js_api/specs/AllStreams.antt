@@ -12,7 +12,7 @@ use Rattle.js_model.specs.declared.reply.StreamInfo.{StreamInfo}
 use Rattle.js_model.specs.declared.desk.PlaceAt.{PlaceAt}
 use Rattle.js_model.specs.Consumers.{is_before}
 use Rattle.js_model.specs.Limits.{last_place, names_a_page, infos_a_page}
-use Rattle.js_model.specs.Refusals.{stream_stopped}
+use Rattle.js_model.specs.Refusals.{store_fault, stream_stopped}
 use Rattle.js_model.specs.Catalog as catalog
 use Rattle.api_replies.specs.declared.reply.ApiReply.TheVariants as replies
 use Rattle.js_api.specs.declared.fault.DeskFault.{DeskFault}
@@ -22,7 +22,7 @@ use Rattle.js_api.specs.declared.outcome.Became.TheVariants.{Made, Unsaid, Ticke
 use Rattle.js_api.specs.declared.outcome.Outcome.{Outcome}
 use Rattle.js_api.specs.Entries.{DeskEntry}
 use Rattle.js_api.specs.Stages.{LooksUp}
-use Rattle.js_api.specs.Holding.{Holds, broken_by}
+use Rattle.js_api.specs.Holding.{Holds}
 use Rattle.js_api.specs.OneStream.{answer, refusal, Answers}
 
 -- ---- the walk
@@ -43,13 +43,13 @@ is_further last None = false
 is_further None (Some at) = true
 is_further (Some last) (Some at) = nat_lt last.place at.place
 
--- the volume of a place failed, its log was full, or it was stopped before
+-- the volume of a place failed, or it was stopped before
 abbrev pub failure : Became → Option ApiError
 failure (Made reply) = None
 failure (Unsaid refused) = None
 failure Ticked = None
 failure Nothing = None
-failure (Broke stream full) = Some (broken_by full)
+failure (Broke stream) = Some store_fault
 failure (Stopped stream) = Some stream_stopped
 failure Gone = None
 
@@ -106,7 +106,7 @@ info_told (Made reply) = info_in reply
 info_told (Unsaid refused) = []
 info_told Ticked = []
 info_told Nothing = []
-info_told (Broke stream full) = []
+info_told (Broke stream) = []
 info_told (Stopped stream) = []
 info_told Gone = []
 

@@ -22,18 +22,19 @@ pub data Sending : Type 0 where
   Short : Sending
   Unsent : (number : ℕ) → Sending
 
--- One hold on a place, with the incarnation that was asked for: what was asked of it, one step after the other; then who listens for its push
--- consumers; then deliveries; and then the routing of all that these entries send. If its last entry broke, it is full exactly if the log of the store was
--- full, and not if the volume failed. Where the volume stands is told before, after the steps and after all.
+-- One hold on a place, with the incarnation that was asked for: what stood there, and how many messages counted against its store; what was asked of it, one
+-- step after the other; then who listens for its push consumers; then deliveries; and then the routing of all that these entries send. It outgrows its log if
+-- with what was asked more would stand there than a log can begin with. Where the volume stands is told before, after the steps and after all.
 pub record Hold : Type 0 where
   pub at : PlaceAt
   pub before : State
+  pub stored : ℕ
   pub steps : List PlaceEntry
   pub between : State
   pub readings : List Reading
   pub deliveries : List PlaceEntry
   pub after : State
-  pub full : Bool
+  pub outgrows : Bool
   pub sending : Sending
   pub volume_before : VolumeAt
   pub volume_between : VolumeAt

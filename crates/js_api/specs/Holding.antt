@@ -2,7 +2,6 @@
 use Rattle.std.specs.Prelude.{◌≡◌, ◌≢◌, ◌⊎◌, ◌<◌, ◌≤◌, ◌+◌, ◌-◌, ◌^◌, ℕ, Bool, true, false, List, [], ◌∷◌, ◌++◌, length, filter, map, sum_by, MatchOption, Option, Some, None, if◌then◌else◌}
 use Rattle.js_base.specs.Bytes.{Bytes, is_empty}
 use Rattle.js_base.specs.declared.out.Out.{Out}
-use Rattle.js_base.specs.declared.out.ApiError.{ApiError}
 use Rattle.js_model.specs.declared.stream.State.{State}
 use Rattle.js_model.specs.declared.stream.State.TheVariants.{Vacant, Live}
 use Rattle.js_model.specs.declared.consumer.Consumer.{Consumer}
@@ -18,7 +17,6 @@ use Rattle.js_model.specs.declared.desk.PlaceAt.{PlaceAt}
 use Rattle.js_model.specs.Events.{is_refused}
 use Rattle.js_model.specs.Streams.{is_push}
 use Rattle.js_model.specs.Ready.{some_ready}
-use Rattle.js_model.specs.Refusals.{store_fault, log_full}
 use Rattle.js_api.specs.declared.fault.DeskFault.{DeskFault}
 use Rattle.js_api.specs.declared.fault.DeskFault.TheVariants as faults
 use Rattle.js_api.specs.declared.outcome.Became.{Became}
@@ -114,7 +112,7 @@ most_bytes = 4194304
 abbrev pub IsFull : Hold → Type 0
 IsFull hold = (most_deliveries ≤ length hold.deliveries) ⊎ (most_bytes ≤ sum_by bytes_of (outs_of hold.before (entries_in hold)))
 
--- the volume failed in a delivery, or its log was full, which is told to nobody
+-- the volume failed in a delivery, which is told to nobody
 abbrev pub delivery_broke : List PlaceEntry → Bool
 delivery_broke [] = false
 delivery_broke (Broken seat now call ∷ more) = true
@@ -167,8 +165,8 @@ pub record IsHoldOf (at : PlaceAt) (first : List What) (what : What) (now : ℕ)
 abbrev pub IsHold : PlaceAt → What → ℕ → Reply → Bool → Option DeskFault → Hold → Type 0
 IsHold at what now reply ready fault hold = IsHoldOf at [] what now reply ready fault hold
 
--- the volume failed in the step, or its log was full, which nobody is told of by the place
-pub record IsBrokenHold (at : PlaceAt) (what : What) (now : ℕ) (stream : Bytes) (full : Bool) (hold : Hold) : Type 0 where
+-- the volume failed in the step, which nobody is told of by the place
+pub record IsBrokenHold (at : PlaceAt) (what : What) (now : ℕ) (stream : Bytes) (hold : Hold) : Type 0 where
   pub seat : ℕ
   pub at_is : hold.at ≡ at
   pub steps : hold.steps ≡ Broken seat now (StepOf (event_at at what)) ∷ []
@@ -176,12 +174,6 @@ pub record IsBrokenHold (at : PlaceAt) (what : What) (now : ℕ) (stream : Bytes
   pub deliveries : hold.deliveries ≡ []
   pub sending : hold.sending ≡ Sent
   pub stream_is : stream ≡ stream_name hold.before
-  pub full_is : full ≡ hold.full
-
--- the server's own refusal of what broke, by whether the log was full
-abbrev pub broken_by : Bool → ApiError
-broken_by false = store_fault
-broken_by true = log_full
 
 -- ---- what became of it
 
@@ -208,15 +200,15 @@ HoldsBy (Unsaid refused) at what now ready fault entries =
 HoldsBy Ticked at what now ready fault entries =
     (hold : Hold) × (entries ≡ Held hold ∷ []) × IsHold at LetPass now Silent ready fault hold × (fault ≡ Some faults.NoMemory)
 HoldsBy Nothing at what now ready fault entries = (ready ≡ false) × Unmakes at fault entries
-HoldsBy (Broke stream full) at what now ready fault entries =
-    (hold : Hold) × (entries ≡ Held hold ∷ []) × IsBrokenHold at what now stream full hold × IsQuiet ready fault
+HoldsBy (Broke stream) at what now ready fault entries =
+    (hold : Hold) × (entries ≡ Held hold ∷ []) × IsBrokenHold at what now stream hold × IsQuiet ready fault
 HoldsBy (Stopped stream) at what now ready fault entries =
     (state : State) × (entries ≡ Halted at state ∷ []) × (stream ≡ stream_name state) × IsQuiet ready fault
 HoldsBy Gone at what now ready fault entries = (kept : ℕ) × (entries ≡ Missed at kept ∷ []) × IsQuiet ready fault
 
--- the volume may have been called before what was asked, or without it, and did not fail in that
+-- the volume may have been called before what was asked, or without it; if it failed in that, its place is stopped, and nothing is made there
 abbrev pub Prepares : PlaceAt → List DeskEntry → Type 0
-Prepares at entries = (entries ≡ []) ⊎ ((before after : VolumeAt) × (entries ≡ Stirred at before after false ∷ []))
+Prepares at entries = (entries ≡ []) ⊎ ((before after : VolumeAt) × (failed : Bool) × (entries ≡ Stirred at before after failed ∷ []))
 
 -- a hold on this place, of what was asked there at the moment, came to that
 pub record Holds (at : PlaceAt) (what : What) (now : ℕ) (outcome : Outcome) (entries : List DeskEntry) : Type 0 where

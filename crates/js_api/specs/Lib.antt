@@ -1,5 +1,6 @@
 pub mod Entries
 pub mod Outputs
+pub mod Rooms
 pub mod Worlds
 pub mod Leading
 pub mod Stages

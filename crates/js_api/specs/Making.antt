@@ -7,7 +7,7 @@ use Rattle.js_model.specs.declared.event.What.TheVariants as whats
 use Rattle.js_model.specs.declared.reply.Reply.{Reply}
 use Rattle.js_model.specs.declared.reply.Reply.TheVariants.{Info, Done, Published, Duplicate, Purged, ConsumerInfo, Message, Names, Infos, Confirmed, Silent, Nobody, Refused}
 use Rattle.js_model.specs.declared.desk.PlaceAt.{PlaceAt}
-use Rattle.js_model.specs.Refusals.{stream_stopped}
+use Rattle.js_model.specs.Refusals.{store_fault, stream_stopped}
 use Rattle.js_model.specs.Catalog as catalog
 use Rattle.js_api.specs.declared.fault.DeskFault.{DeskFault}
 use Rattle.js_api.specs.declared.outcome.Became.{Became}
@@ -15,7 +15,7 @@ use Rattle.js_api.specs.declared.outcome.Became.TheVariants.{Made, Unsaid, Ticke
 use Rattle.js_api.specs.declared.outcome.Outcome.{Outcome}
 use Rattle.js_api.specs.Entries.{DeskEntry}
 use Rattle.js_api.specs.Stages.{Then, Gives, Reads, Ending}
-use Rattle.js_api.specs.Holding.{Holds, broken_by}
+use Rattle.js_api.specs.Holding.{Holds}
 use Rattle.js_api.specs.OneStream.{IsNamed, IsAdding, IsShort, free_unless_made}
 
 -- why the stream was not made
@@ -40,7 +40,7 @@ IsMaking (Made reply) result entries = Gives (refusal_in reply) result entries
 IsMaking (Unsaid refused) result entries = ⊥
 IsMaking Ticked result entries = ⊥
 IsMaking Nothing result entries = ⊥
-IsMaking (Broke stream full) result entries = Gives (Some (broken_by full)) result entries
+IsMaking (Broke stream) result entries = Gives (Some store_fault) result entries
 IsMaking (Stopped stream) result entries = Gives (Some stream_stopped) result entries
 IsMaking Gone result entries = ⊥
 

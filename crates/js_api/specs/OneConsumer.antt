@@ -68,7 +68,7 @@ IsHeard (Made reply) result entries = Gives (is_heard reply) result entries
 IsHeard (Unsaid refused) result entries = ⊥
 IsHeard Ticked result entries = ⊥
 IsHeard Nothing result entries = ⊥
-IsHeard (Broke stream full) result entries = Gives true result entries
+IsHeard (Broke stream) result entries = Gives true result entries
 IsHeard (Stopped stream) result entries = Gives true result entries
 IsHeard Gone result entries = Gives false result entries
 

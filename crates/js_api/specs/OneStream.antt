@@ -11,7 +11,7 @@ use Rattle.js_model.specs.declared.reply.Reply.{Reply}
 use Rattle.js_model.specs.declared.reply.Reply.TheVariants.{Info, Done, Published, Duplicate, Purged, ConsumerInfo, Message, Names, Infos, Confirmed, Silent, Nobody, Refused}
 use Rattle.js_model.specs.declared.desk.PlaceAt.{PlaceAt}
 use Rattle.js_model.specs.Proper.{reply_of}
-use Rattle.js_model.specs.Refusals.{no_stream, stream_stopped}
+use Rattle.js_model.specs.Refusals.{no_stream, store_fault, stream_stopped}
 use Rattle.js_model.specs.Catalog as catalog
 use Rattle.api_calls.specs.declared.call.ApiCall.TheVariants as calls
 use Rattle.api_calls.specs.Names.{name_of}
@@ -25,7 +25,7 @@ use Rattle.js_api.specs.declared.outcome.Became.TheVariants.{Made, Unsaid, Ticke
 use Rattle.js_api.specs.declared.outcome.Outcome.{Outcome}
 use Rattle.js_api.specs.Entries.{DeskEntry, Looked}
 use Rattle.js_api.specs.Stages.{Then, Gives, LooksUp, Sends, Ending}
-use Rattle.js_api.specs.Holding.{Holds, broken_by}
+use Rattle.js_api.specs.Holding.{Holds}
 use Rattle.js_api.specs.Outputs.{sent_text}
 
 -- ---- the server's own answers
@@ -98,7 +98,7 @@ IsEnded name to (Made reply) result entries = Gives (is_taken reply) result entr
 IsEnded name to (Unsaid refused) result entries = ⊥
 IsEnded name to Ticked result entries = ⊥
 IsEnded name to Nothing result entries = ⊥
-IsEnded name to (Broke stream full) result entries = Answers (refusal name to (broken_by full)) result entries
+IsEnded name to (Broke stream) result entries = Answers (refusal name to store_fault) result entries
 IsEnded name to (Stopped stream) result entries = Answers (refusal name to stream_stopped) result entries
 IsEnded name to Gone result entries = Answers (refusal name to no_stream) result entries
 
@@ -132,7 +132,7 @@ free_unless_made at (Made reply) = if is_info reply then [] else removed at fals
 free_unless_made at (Unsaid refused) = if refused then removed at false else []
 free_unless_made at Ticked = removed at false
 free_unless_made at Nothing = removed at false
-free_unless_made at (Broke stream full) = stopped at
+free_unless_made at (Broke stream) = stopped at
 free_unless_made at (Stopped stream) = stopped at
 free_unless_made at Gone = removed at false
 
@@ -142,7 +142,7 @@ keep_subjects at (Made reply) = kept at (is_info reply)
 keep_subjects at (Unsaid refused) = kept at (not refused)
 keep_subjects at Ticked = kept at false
 keep_subjects at Nothing = kept at false
-keep_subjects at (Broke stream full) = stopped at
+keep_subjects at (Broke stream) = stopped at
 keep_subjects at (Stopped stream) = kept at false
 keep_subjects at Gone = kept at false
 
@@ -152,7 +152,7 @@ free_if_dropped at (Made reply) = if is_done reply then removed at true else []
 free_if_dropped at (Unsaid refused) = if refused then [] else removed at true
 free_if_dropped at Ticked = []
 free_if_dropped at Nothing = []
-free_if_dropped at (Broke stream full) = stopped at
+free_if_dropped at (Broke stream) = stopped at
 free_if_dropped at (Stopped stream) = []
 free_if_dropped at Gone = []
 

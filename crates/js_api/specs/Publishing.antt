@@ -11,7 +11,7 @@ use Rattle.js_model.specs.declared.event.What.TheVariants as whats
 use Rattle.js_model.specs.declared.reply.Reply.TheVariants.{Refused}
 use Rattle.js_model.specs.declared.desk.Taken.{Taken}
 use Rattle.js_model.specs.declared.desk.PlaceAt.{PlaceAt}
-use Rattle.js_model.specs.Refusals.{stream_stopped}
+use Rattle.js_model.specs.Refusals.{store_fault, stream_stopped}
 use Rattle.js_model.specs.Router as router
 use Rattle.js_model.specs.Catalog.{Find}
 use Rattle.publish_wants.specs.Wants.{wants_of}
@@ -23,7 +23,7 @@ use Rattle.js_api.specs.declared.outcome.Outcome.{Outcome}
 use Rattle.js_api.specs.Clients.{Client}
 use Rattle.js_api.specs.Entries.{DeskEntry, Routed}
 use Rattle.js_api.specs.Stages.{Then, Gives, IsWorn, LooksUp, Sends, Ending}
-use Rattle.js_api.specs.Holding.{Holds, broken_by}
+use Rattle.js_api.specs.Holding.{Holds}
 use Rattle.api_replies.specs.PubAcks.{publish_text}
 use Rattle.js_api.specs.Outputs.{sent_text}
 
@@ -94,7 +94,7 @@ IsReached message (Made reply) result entries = Gives true result entries
 IsReached message (Unsaid refused) result entries = ⊥
 IsReached message Ticked result entries = ⊥
 IsReached message Nothing result entries = ⊥
-IsReached message (Broke stream full) result entries = Then (Sends (publish_refusal message.reply stream (broken_by full))) (λ _. Gives true) result entries
+IsReached message (Broke stream) result entries = Then (Sends (publish_refusal message.reply stream store_fault)) (λ _. Gives true) result entries
 IsReached message (Stopped stream) result entries = Then (Sends (publish_refusal message.reply stream stream_stopped)) (λ _. Gives true) result entries
 IsReached message Gone result entries = Gives false result entries
 

@@ -17,6 +17,7 @@ use Rattle.js_model.specs.Router.{Router, RouteTold, IsRoute, Publish, Interest,
 use Rattle.js_model.specs.Catalog.{Catalog, catalog_of, IsCatalogCall, NextUsed, At}
 use Rattle.js_api.specs.Entries.{Reading, Sending, Sent, Short, Hold, entries_in, DeskEntry, Routed, Looked, Turned, Resumed, Held, Stirred, Halted, Missed, Spent}
 use Rattle.js_api.specs.Outputs.{outs_of}
+use Rattle.js_api.specs.Rooms.{FindNoRoom, MayFindNoRoom}
 
 -- ---- what there is
 
@@ -67,14 +68,15 @@ is_broken (Step seat e now reply outs unsaid ∷ more) = is_broken more
 is_broken (Deliver seat now listening d outs ∷ more) = is_broken more
 is_broken (Broken seat now call ∷ more) = true
 
--- a hold that broke stops its place, at the count that its volume has then, which rose unless the log of the store was full
-abbrev pub Stops : (broken full : Bool) → VolumeAt → VolumeAt → Option ℕ → Type 0
-Stops true full before after stopped = (stopped ≡ Some after.faults) × (full ≡ false → Rose before.faults after.faults)
-Stops false full before after stopped = (stopped ≡ None) × (full ≡ false)
+-- a volume that failed stops its place, at the count that it has then, which rose
+abbrev pub Stops : (failed : Bool) → VolumeAt → VolumeAt → Option ℕ → Type 0
+Stops true before after stopped = (stopped ≡ Some after.faults) × Rose before.faults after.faults
+Stops false before after stopped = stopped ≡ None
 
--- its count of faults, its calls and its generations do not fall
+-- its counts of faults and of refusals, its calls and its generations do not fall
 pub record IsLater (before after : VolumeAt) : Type 0 where
   pub faults : before.faults ≤ after.faults
+  pub refusals : before.refusals ≤ after.refusals
   pub moments : before.moment ≤ after.moment
   pub generations : before.generation ≤ after.generation
 
@@ -82,23 +84,25 @@ pub record IsLater (before after : VolumeAt) : Type 0 where
 pub record IsHeld (hold : Hold) (old new : PlaceIn) : Type 0 where
   pub going : old.stopped ≡ None
   pub was : old.state ≡ hold.before
+  pub counted : old.stored ≡ hold.stored
   pub steps : RunFrom old.stored hold.before hold.steps hold.between
+  pub short : FindNoRoom hold.steps → MayFindNoRoom hold
   pub deliveries : RunFrom (total_of old.stored hold.before hold.steps hold.between steps) hold.between hold.deliveries hold.after
   pub ends : is_broken hold.steps ≡ true → hold.deliveries ≡ []
   pub is_state : new.state ≡ hold.after
   pub stored : new.stored ≤ total_of (total_of old.stored hold.before hold.steps hold.between steps) hold.between hold.deliveries hold.after deliveries
-  pub stops : Stops (is_broken (entries_in hold)) hold.full hold.volume_before hold.volume_after new.stopped
+  pub stops : Stops (is_broken (entries_in hold)) hold.volume_before hold.volume_after new.stopped
   pub volume_was : old.volume ≡ hold.volume_before
   pub volume_is : new.volume ≡ hold.volume_after
   pub before_between : IsLater hold.volume_before hold.volume_between
   pub between_after : IsLater hold.volume_between hold.volume_after
 
--- the volume of a place was called without an entry of its run. No log is full in that
+-- the volume of a place was called without an entry of its run
 pub record IsStirred (before after : VolumeAt) (failed : Bool) (old new : PlaceIn) : Type 0 where
   pub going : old.stopped ≡ None
   pub state : new.state ≡ old.state
   pub stored : new.stored ≡ old.stored
-  pub stops : Stops failed false before after new.stopped
+  pub stops : Stops failed before after new.stopped
   pub volume_was : old.volume ≡ before
   pub volume_is : new.volume ≡ after
   pub later : IsLater before after

@@ -18,14 +18,12 @@ pub enum Became {
     Ticked,
     /// No step was made, since memory or the numbers of turns or generations ran out before it. The state of the place is as it was.
     Nothing,
-    /// The volume failed, or its log is full, and the place is stopped now. Whether what was asked outlives a crash is not known.
+    /// The volume failed, and the place is stopped now. Whether what was asked outlives a crash is not known.
     Broke {
         /// The name of the stream that stood there, empty if there was none.
         stream: Blob,
-        /// Whether its log is full. Nothing was written then.
-        full: bool,
     },
-    /// The place was stopped before.
+    /// The place was stopped before what was asked was made, which may have been as room was to be made for it.
     Stopped {
         /// The name of the stream that stands there, empty if there is none.
         stream: Blob,

@@ -21,10 +21,11 @@ use Rattle.js_api.specs.declared.outcome.Outcome.{Outcome}
 use Rattle.js_api.specs.Entries.{DeskEntry}
 use Rattle.js_api.specs.Holding.{Holds}
 use Rattle.js_api.specs.Leading.{Leads, Makes}
+use Rattle.js_api.specs.Rooms.{AreOutgrown}
 use Rattle.js_api.specs.Worlds.{Scene, SoloStep}
 use Rattle.desk_answers.specs.Became.{is_dropped}
 use Rattle.desk_ground.specs.Grounds as phases
-use Rattle.desk_ground.specs.Grounds.{IsKnown, Knows, Phase}
+use Rattle.desk_ground.specs.Grounds.{IsKnown, Knows}
 use Rattle.desk_ground.specs.Outcomes.{IsThere, MayHold, phase_after}
 use Rattle.desk_hold.specs.OnePlace.{HoldsOn, on}
 use Rattle.desk_places.specs.declared.turn.Turn.{Turn}
@@ -152,15 +153,15 @@ module _ (c : Catalog) (places : List PlaceIn) (last : Option PlaceAt) (turn : T
       by (became.Unsaid refused) e = tt
       by became.Ticked e = tt
       by became.Nothing e = tt
-      by (became.Broke stream full) e = tt
+      by (became.Broke stream) e = tt
       by (became.Stopped stream) e = tt
       by became.Gone e = let gone = f.gone e in gone.1 (known_kept (slice_get c at.place) refl known gone.0)
 
 -- ---- the entries
 
-module _ {V : Type 0} (keeps : V → V → Type 0) (none : (v : V) → keeps v v) (left : V → ℕ → Image → Type 0) (clock : V → ℕ) (base : Option ℕ → V → State → Type 0)
+module _ {V : Type 0} (keeps : V → V → Type 0) (none : (v : V) → keeps v v) (left : V → ℕ → Image → Type 0) (clock : V → ℕ) (base : Option ℕ → V → State → Type 0) (outgrows : State → What → Type 0)
     (earlier : (v : V) (t u : ℕ) (image : Image) → t ≤ u → left v u image → left v t image) (r router : Router) (c : Catalog) (places : List PlaceIn) (vols : List V) (ticked : ℕ) (last : Option PlaceAt) (turn : Turn) (at : PlaceAt)
-    (holds : Image → State → Type 0) (old new : Seen) (there : slice_get places at.place ≡ Some old.place) (what : What) (now : ℕ) (outcome : Outcome) (h : HoldsOn IsRoute never at holds 0 what now outcome old new r router) where
+    (holds : Image → State → Type 0) (old new : Seen) (there : slice_get places at.place ≡ Some old.place) (what : What) (now : ℕ) (outcome : Outcome) (h : HoldsOn IsRoute never at holds outgrows 0 what now outcome old new r router) where
   pub facts_of : Facts at what outcome.became h.entries old.place new.place
   facts_of = hold_facts at what now outcome h.entries (on old.place r) (on new.place router) h.holds h.led
 
@@ -169,16 +170,16 @@ module _ {V : Type 0} (keeps : V → V → Type 0) (none : (v : V) → keeps v v
   last_so (became.Unsaid refused) = refl
   last_so became.Ticked = refl
   last_so became.Nothing = refl
-  last_so (became.Broke stream full) = refl
+  last_so (became.Broke stream) = refl
   last_so (became.Stopped stream) = refl
   last_so became.Gone = refl
 
   pub made_of : (later : Option PlaceAt) (after : Turn) (vol vol_new : V) → later ≡ (if is_held outcome.became then Some at else last) → slice_get vols at.place ≡ Some vol → keeps vol vol_new
       → Outlasts holds left clock (base old.place.stopped vol) (base new.place.stopped vol_new) (timed_at at.place h.entries) old.place.state new.place.state vol vol_new
-      → Makes (SoloMade keeps holds left clock base) (Holds at what now outcome) (standing r c places vols ticked last turn) (standing router c (slice_set places at.place new.place) (slice_set vols at.place vol_new) ticked later after)
+      → Makes (SoloMade keeps holds left clock base outgrows) (Holds at what now outcome) (standing r c places vols ticked last turn) (standing router c (slice_set places at.place new.place) (slice_set vols at.place vol_new) ticked later after)
   made_of later after vol vol_new later_is stands kept outlasts =
       let s : Scene = (standing r c places vols ticked last turn).scene in
-      let m = held_alone at holds 0 what now outcome s old new router there h in
+      let m = held_alone at holds outgrows 0 what now outcome s old new router there h in
       let lasts = outlast_set holds left clock base earlier h.entries places vols at.place old.place new.place vol vol_new there stands outlasts
       (timed_elsewhere at h.entries (on old.place r) (on new.place router) h.led) in
       let ends : with_place s at.place (on new.place router) (last_of at outcome.became last) ≡ (standing router c (slice_set places at.place new.place) (slice_set vols at.place vol_new) ticked later after).scene =
@@ -190,6 +191,7 @@ module _ {V : Type 0} (keeps : V → V → Type 0) (none : (v : V) → keeps v v
           subst (λ (x : Scene). Leads SoloStep s m.entries x) ends m.led,
           kept_set keeps none vols at.place vol vol_new stands kept,
           subst (λ (es : List DeskEntry). PlacesOutlast holds left clock base (record { places = places; vols = vols }) es (record { places = slice_set places at.place new.place; vols = slice_set vols at.place vol_new }))
-              (sym (held_entries at holds 0 what now outcome s old new router there h)) lasts,
+              (sym (held_entries at holds outgrows 0 what now outcome s old new router there h)) lasts,
+          subst (λ (es : List DeskEntry). AreOutgrown outgrows es) (sym (held_entries at holds outgrows 0 what now outcome s old new router there h)) h.outgrown,
         );
       }

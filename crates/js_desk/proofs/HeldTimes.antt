@@ -160,7 +160,7 @@ module _ (at : PlaceAt) where
   one_hold became.Nothing what now ready (Some faults.TooManySubs) entries h = absurd h.1
   one_hold became.Nothing what now ready (Some (faults.Worn last)) entries h = ⊎_elim (λ e. inl (λ number. ap (timed_at number) e)) (λ e. inl (λ number. ap (timed_at number) e.2)) h.1
   one_hold became.Nothing what now ready (Some (faults.NoSession latest)) entries h = absurd h.1
-  one_hold (became.Broke stream full) what now ready fault entries h = inr (h.0, h.1)
+  one_hold (became.Broke stream) what now ready fault entries h = inr (h.0, h.1)
   one_hold (became.Stopped stream) what now ready fault entries h = inl (λ number. ap (timed_at number) h.1)
   one_hold became.Gone what now ready fault entries h = inl (λ number. ap (timed_at number) h.1)
 
@@ -193,7 +193,7 @@ module _ (at : PlaceAt) where
   pub timed_fine : (what : What) (now : ℕ) (outcome : Outcome) (entries : List DeskEntry) (old new : OnPlace Router) → Holds at what now outcome entries → Led old entries new → AllFine entries
   timed_fine what now outcome entries old new h led = ⊎_elim
       (λ none. whole (h.entries_are ∙ ap (λ (es : List DeskEntry). es ++ h.more) none))
-      (λ stirred. behind stirred.0 stirred.1 (h.entries_are ∙ ap (λ (es : List DeskEntry). es ++ h.more) stirred.2))
+      (λ stirred. behind stirred.0 stirred.1 stirred.2 (h.entries_are ∙ ap (λ (es : List DeskEntry). es ++ h.more) stirred.3))
       h.prepares
     where
       one : OneHold h.more
@@ -202,7 +202,7 @@ module _ (at : PlaceAt) where
       whole : entries ≡ h.more → AllFine entries
       whole same = subst AllFine (sym same) (one_fine h.more old new (subst (λ (es : List DeskEntry). Led old es new) same led) one)
 
-      behind : (before after : VolumeAt) → entries ≡ Stirred at before after false ∷ h.more → AllFine entries
-      behind before after same =
+      behind : (before after : VolumeAt) (failed : Bool) → entries ≡ Stirred at before after failed ∷ h.more → AllFine entries
+      behind before after failed same =
           let rest = subst (λ (es : List DeskEntry). Led old es new) same led in
           subst AllFine (sym same) (one_fine h.more rest.0 new rest.2 one)

@@ -209,12 +209,12 @@ module _ (at : PlaceAt) (what : What) (now : ℕ) where
           let led = subst (λ (es : List DeskEntry). Leads (PlaceStep IsRoute never at) old es new) stirred.2 l in
           rests became.Nothing entries old.place new.place refl (ap (λ (o : OnPlace Router). o.place.state) (sym led.2) ∙ led.1.stirred.state) led.1.stirred.going
   by_became became.Nothing ready (Some (faults.NoSession latest)) entries old new h l going = absurd h.1
-  by_became (became.Broke stream full) ready fault entries old new h l going =
+  by_became (became.Broke stream) ready fault entries old new h l going =
       let led = subst (λ (es : List DeskEntry). Leads (PlaceStep IsRoute never at) old es new) h.1 l in
       let held = one_held h.0 old new led in
       let broken : is_broken (entries_in h.0) ≡ true =
       ap (λ (es : List PlaceEntry). is_broken (es ++ h.0.deliveries)) h.2.steps in
-      let stops = subst (λ (b : Bool). Stops b h.0.full h.0.volume_before h.0.volume_after new.place.stopped) broken held.stops in
+      let stops = subst (λ (b : Bool). Stops b h.0.volume_before h.0.volume_after new.place.stopped) broken held.stops in
       absurd (cc (stops.0, going))
   by_became (became.Stopped stream) ready fault entries old new h l going =
       let led = subst (λ (es : List DeskEntry). Leads (PlaceStep IsRoute never at) old es new) h.1 l in
@@ -247,7 +247,7 @@ module _ (at : PlaceAt) (what : What) (now : ℕ) where
             gone = missed outcome.became outcome.ready outcome.fault h.more old new h.holds bare;
           }
       by first (inr stirred) led =
-          let both = subst (λ (fs : List DeskEntry). Leads (PlaceStep IsRoute never at) old (fs ++ h.more) new) stirred.2 led in
+          let both = subst (λ (fs : List DeskEntry). Leads (PlaceStep IsRoute never at) old (fs ++ h.more) new) stirred.3 led in
           let when = by_became outcome.became outcome.ready outcome.fault h.more both.0 new h.holds both.2 in
           let state : both.0.place.state ≡ old.place.state = both.1.stirred.state in
           record {

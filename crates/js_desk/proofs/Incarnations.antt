@@ -7,6 +7,7 @@ use Rattle.js_model.specs.declared.stream.State.TheVariants.{Vacant, Live}
 use Rattle.js_model.specs.declared.stream.Stream.{Stream}
 use Rattle.js_model.specs.declared.stream.Message.{Message}
 use Rattle.js_model.specs.declared.consumer.Consumer.{Consumer}
+use Rattle.js_model.specs.declared.stream_config.StreamConfig.{StreamConfig}
 use Rattle.js_model.specs.declared.consumer_config.ConsumerConfig.{ConsumerConfig}
 use Rattle.js_model.specs.declared.ack.Ask.{Ask}
 use Rattle.js_model.specs.declared.ack.AckKind.{AckKind}
@@ -24,10 +25,10 @@ use Rattle.js_base.specs.declared.out.ApiError.{ApiError}
 use Rattle.js_model.specs.Advance.{advance}
 use Rattle.js_model.specs.Configs.{same_consumer_config, same_stream_config, same_retention}
 use Rattle.js_model.specs.Deliver.{IsDelivered}
-use Rattle.js_model.specs.Events.{ack_answer, ack_done, answered, consumer_asked, consumer_dropped, consumer_made, consumer_told, deleted, is_refused, kept_incarnation, message_at, message_by, message_told, published, pull_answer, quietly, settled, settled_state, stream_answer, stream_told, told_of, refused, vacant_answer, vacantly, with_id}
+use Rattle.js_model.specs.Events.{ack_answer, ack_done, answered, consumer_asked, consumer_dropped, consumer_made, consumer_told, deleted, is_refused, kept_incarnation, message_at, message_by, message_told, or_no_room, published, pull_answer, quietly, settled, settled_state, stream_answer, stream_made, stream_told, told_of, refused, vacant_answer, vacantly, with_config, with_id}
 use Rattle.js_model.specs.Acknowledge.{is_no_delivery}
-use Rattle.js_model.specs.Consumers.{empty_stream, making_checks, new_consumer, queue_checks, with_new}
-use Rattle.js_model.specs.Refusals.{consumer_exists, first_refusal, other_config, retention_cannot_change, numbers_used_up}
+use Rattle.js_model.specs.Consumers.{making_checks, new_consumer, queue_checks, with_new}
+use Rattle.js_model.specs.Refusals.{consumer_exists, first_refusal, no_room, other_config, retention_cannot_change, numbers_used_up}
 use Rattle.js_model.specs.Retention.{kept}
 use Rattle.js_model.specs.Streams.{by_name}
 use Rattle.js_model.specs.Trim.{trim}
@@ -77,11 +78,11 @@ made_keeps s name config None =
     let made = record s { consumers = with_new s.consumers (new_consumer s name config) } in consumer_told_keeps made (by_name (settled made).consumers name)
 made_keeps s name config (Some e) = refl
 
-asked_keeps : (s : Stream) (name : Bytes) (config : ConsumerConfig) (update : Bool) (found : Option Consumer)
-    → kept_incarnation (consumer_asked s name config update found).state ≡ s.incarnation
-asked_keeps s name config true None = refl
-asked_keeps s name config false None = made_keeps s name config (first_refusal (making_checks s name config))
-asked_keeps s name config update (Some c) =
+asked_keeps : (s : Stream) (name : Bytes) (config : ConsumerConfig) (update room : Bool) (found : Option Consumer)
+    → kept_incarnation (consumer_asked s name config update room found).state ≡ s.incarnation
+asked_keeps s name config true room None = refl
+asked_keeps s name config false room None = made_keeps s name config (or_no_room room (first_refusal (making_checks s name config)))
+asked_keeps s name config update room (Some c) =
     either_keeps (same_consumer_config config c.config) s.incarnation (consumer_told s name) (refused (unwrap_or (first_refusal (queue_checks s name config)) consumer_exists) s)
     (consumer_told_keeps s (by_name (settled s).consumers name)) refl
 
@@ -97,17 +98,21 @@ ack_keeps : (s : Stream) (reply : Option Bytes) (n : ℕ) (kind : AckKind) (foun
 ack_keeps s reply n kind None = refl
 ack_keeps s reply n kind (Some c) = either_keeps (is_no_delivery c n) s.incarnation (quietly Silent s) (ack_done s reply n kind c) refl refl
 
+config_keeps : (s : Stream) (config : StreamConfig) (room : Bool) → kept_incarnation (with_config s config room).state ≡ s.incarnation
+config_keeps s config true = refl
+config_keeps s config false = either_keeps (same_stream_config config s.config) s.incarnation (stream_told s) (refused no_room s) refl refl
+
 -- ---- any event
 
 stream_keeps : (s : Stream) (what : What) (room : Bool) → is_drop what ≡ false → kept_incarnation (stream_answer s what room).state ≡ s.incarnation
 stream_keeps s (whats.Make reply config) room d = either_keeps (same_stream_config config s.config) s.incarnation (stream_told s) (refused other_config s) refl refl
 stream_keeps s (whats.Change reply config) room d =
-    either_keeps (same_retention config.retention s.config.retention) s.incarnation (stream_told (record s { config = config })) (refused retention_cannot_change s) refl refl
+    either_keeps (same_retention config.retention s.config.retention) s.incarnation (with_config s config room) (refused retention_cannot_change s) (config_keeps s config room) refl
 stream_keeps s (whats.Drop reply) room d = absurd (cc)
 stream_keeps s (whats.Publish p) room d = published_keeps s p (verdict s p room)
 stream_keeps s (whats.Purge reply filter below keep) room d = refl
 stream_keeps s (whats.Delete reply seq) room d = deleted_keeps s (message_at s seq)
-stream_keeps s (whats.MakeConsumer reply name config update) room d = asked_keeps s name config update (by_name s.consumers name)
+stream_keeps s (whats.MakeConsumer reply name config update) room d = asked_keeps s name config update room (by_name s.consumers name)
 stream_keeps s (whats.DropConsumer reply name) room d = dropped_keeps s (by_name s.consumers name)
 stream_keeps s (whats.Ack reply ack) room d = ack_keeps s reply ack.seq ack.kind (by_name s.consumers ack.consumer)
 stream_keeps s (whats.Pull reply consumer ask) room d = pull_keeps s reply ask (by_name s.consumers consumer)
@@ -118,28 +123,32 @@ stream_keeps s (whats.ConsumerInfo reply name) room d = consumer_told_keeps s (b
 stream_keeps s (whats.ConsumerNames reply offset) room d = refl
 stream_keeps s (whats.ConsumerList reply offset) room d = refl
 
-vacant_keeps : (i : ℕ) (what : What) (now : ℕ) → kept_incarnation (vacant_answer i what now).state ≡ i + 1
-vacant_keeps i (whats.Make reply config) now =
-    either_keeps (i + 1 == 2 ^ 62) (i + 1) (vacantly (Refused numbers_used_up) i) (stream_told (empty_stream (i + 1) config now)) refl refl
-vacant_keeps i (whats.Change reply config) now = refl
-vacant_keeps i (whats.Drop reply) now = refl
-vacant_keeps i (whats.Publish p) now = refl
-vacant_keeps i (whats.Purge reply filter below keep) now = refl
-vacant_keeps i (whats.Delete reply seq) now = refl
-vacant_keeps i (whats.MakeConsumer reply name config update) now = refl
-vacant_keeps i (whats.DropConsumer reply name) now = refl
-vacant_keeps i (whats.Ack reply ack) now = refl
-vacant_keeps i (whats.Pull reply consumer ask) now = refl
-vacant_keeps i whats.Tick now = refl
-vacant_keeps i (whats.StreamInfo reply) now = refl
-vacant_keeps i (whats.MessageGet reply by) now = refl
-vacant_keeps i (whats.ConsumerInfo reply name) now = refl
-vacant_keeps i (whats.ConsumerNames reply offset) now = refl
-vacant_keeps i (whats.ConsumerList reply offset) now = refl
+stream_made_keeps : (i : ℕ) (config : StreamConfig) (now : ℕ) (room : Bool) → kept_incarnation (stream_made i config now room).state ≡ i + 1
+stream_made_keeps i config now true = refl
+stream_made_keeps i config now false = refl
+
+vacant_keeps : (i : ℕ) (what : What) (now : ℕ) (room : Bool) → kept_incarnation (vacant_answer i what now room).state ≡ i + 1
+vacant_keeps i (whats.Make reply config) now room =
+    either_keeps (i + 1 == 2 ^ 62) (i + 1) (vacantly (Refused numbers_used_up) i) (stream_made i config now room) refl (stream_made_keeps i config now room)
+vacant_keeps i (whats.Change reply config) now room = refl
+vacant_keeps i (whats.Drop reply) now room = refl
+vacant_keeps i (whats.Publish p) now room = refl
+vacant_keeps i (whats.Purge reply filter below keep) now room = refl
+vacant_keeps i (whats.Delete reply seq) now room = refl
+vacant_keeps i (whats.MakeConsumer reply name config update) now room = refl
+vacant_keeps i (whats.DropConsumer reply name) now room = refl
+vacant_keeps i (whats.Ack reply ack) now room = refl
+vacant_keeps i (whats.Pull reply consumer ask) now room = refl
+vacant_keeps i whats.Tick now room = refl
+vacant_keeps i (whats.StreamInfo reply) now room = refl
+vacant_keeps i (whats.MessageGet reply by) now room = refl
+vacant_keeps i (whats.ConsumerInfo reply name) now room = refl
+vacant_keeps i (whats.ConsumerNames reply offset) now room = refl
+vacant_keeps i (whats.ConsumerList reply offset) now room = refl
 
 pub event_keeps : (old : State) (e : Event) (now : ℕ) (room : Bool) → is_drop e.what ≡ false → kept_incarnation (answered old e now room).state ≡ kept_incarnation old
 unfolding answered
-event_keeps (Vacant i) e now room d = settled_keeps (vacant_answer i e.what now).state ∙ vacant_keeps i e.what now
+event_keeps (Vacant i) e now room d = settled_keeps (vacant_answer i e.what now room).state ∙ vacant_keeps i e.what now room
 event_keeps (Live s) e now room d =
     settled_keeps (stream_answer (advance s now) e.what room).state ∙ stream_keeps (advance s now) e.what room d ∙ advance_keeps s now
 
@@ -200,7 +209,7 @@ undropped_keeps old e now room d other = by old e.what d other
   where
     by : (state : State) (what : What) → is_drop what ≡ true → ((answered state (record { incarnation = e.incarnation; what = what }) now room).reply ≡ Done → ⊥)
         → kept_incarnation (answered state (record { incarnation = e.incarnation; what = what }) now room).state ≡ kept_incarnation state
-    by (Vacant i) what is f = settled_keeps (vacant_answer i what now).state ∙ vacant_keeps i what now
+    by (Vacant i) what is f = settled_keeps (vacant_answer i what now room).state ∙ vacant_keeps i what now room
     by (Live s) (whats.Drop reply) is f = absurd (f refl)
     by (Live s) (whats.Make reply config) is f = absurd (cc)
     by (Live s) (whats.Change reply config) is f = absurd (cc)

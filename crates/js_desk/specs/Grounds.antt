@@ -1,6 +1,7 @@
 -- What contracts see of the ground of one caller, and what holds of it.
 use Rattle.std.specs.Prelude.{◌≡◌, ◌≤◌, ◌<◌, ◌+◌, ◌==◌, ℕ, Bool, false, List, length, Option, None, Some, IsNone, IfSome, slice_get, if◌then◌else◌}
 use Rattle.std.specs.List.{AllZip}
+use Rattle.js_model.specs.declared.event.What.{What}
 use Rattle.js_model.specs.declared.stream.State.{State}
 use Rattle.js_model.specs.declared.desk.PlaceAt.{PlaceAt}
 use Rattle.js_model.specs.Catalog.{Catalog, Used, Place}
@@ -10,6 +11,7 @@ use Rattle.js_model.specs.Router.{Router, is_open}
 use Rattle.place_engine.specs.Stepping.{Image}
 use Rattle.js_api.specs.Entries.{DeskEntry}
 use Rattle.js_api.specs.Leading.{Leads}
+use Rattle.js_api.specs.Rooms.{AreOutgrown}
 use Rattle.js_api.specs.Worlds.{Scene, SoloStep}
 use Rattle.desk_ground.specs.Grounds.{Phase, Setting}
 use Rattle.desk_places.specs.declared.turn.Turn.{Turn}
@@ -37,11 +39,11 @@ standing router catalog places vols ticked last turn = record {
 abbrev pub row_of : {V : Type 0} → Standing V → Row V
 row_of s = record { places = s.scene.world.places; vols = s.vols }
 
--- entries lead from the one ground to the other, whose volumes are what the calls of its places may make of those from before; and of what the entries made at
--- each place a crash may leave a beginning
-abbrev pub SoloMade : {V : Type 0} → (V → V → Type 0) → (Image → State → Type 0) → (V → ℕ → Image → Type 0) → (V → ℕ) → (Option ℕ → V → State → Type 0) → Standing V → List DeskEntry → Standing V → Type 0
-SoloMade keeps holds left clock base old entries new =
-    Leads SoloStep old.scene entries new.scene × AllZip keeps old.vols new.vols × PlacesOutlast holds left clock base (row_of old) entries (row_of new)
+-- Entries lead from the one ground to the other, whose volumes are what the calls of its places may make of those from before; of what the entries made at
+-- each place a crash may leave a beginning; and that a log is outgrown is told only where it is so.
+abbrev pub SoloMade : {V : Type 0} → (V → V → Type 0) → (Image → State → Type 0) → (V → ℕ → Image → Type 0) → (V → ℕ) → (Option ℕ → V → State → Type 0) → (State → What → Type 0) → Standing V → List DeskEntry → Standing V → Type 0
+SoloMade keeps holds left clock base outgrows old entries new =
+    Leads SoloStep old.scene entries new.scene × AllZip keeps old.vols new.vols × PlacesOutlast holds left clock base (row_of old) entries (row_of new) × AreOutgrown outgrows entries
 
 -- which sessions are open, and how many places there are
 abbrev pub setting_of : Scene → Setting

@@ -11,6 +11,7 @@ ghost use Rattle.desk_places.specs.Closing.{Closes};
 ghost use Rattle.desk_places.specs.Opening.{FailsToOpen};
 ghost use Rattle.js_desk.specs.Opening.{OpensDesk};
 ghost use Rattle.js_desk.specs.Solo.{DeskMade, frames_left, row_in};
+ghost use Rattle.js_desk.specs.Outgrown.{outgrown_more};
 ghost use Rattle.js_desk.specs.Outlasting.{outlast_more, outlast_none};
 ghost use Rattle.js_desk.specs.Kept.{kept_more, kept_none};
 
@@ -55,9 +56,9 @@ impl<P: Place> SoloDesk<P> {
     /// places that were opened by then, nothing is left but their volumes.
     pub fn open(alloc: Global, vols: Vec<P::Vol>) -> Result<SoloDesk<P>, HubFault<P::Vol>>
         requires few { length vols.items ≤ 32 }
-        ensures opened { IfOk result (OpensDesk P.seen P.vol P.holds P.reads P.left P.clock P.faults P.base P.opens P.refuses P.keeps_vol vols.items) }
+        ensures opened { IfOk result (OpensDesk P.seen P.vol P.holds P.reads P.left P.clock P.faults P.room_causes P.base P.opens P.refuses P.keeps_vol vols.items) }
         ensures client { IfOk result (λ desk. desk.client ≡ closed (new_client 0)) }
-        ensures err { IfErr result (FailsToOpen P.seen P.vol P.holds P.reads P.left P.clock P.faults P.base P.opens P.refuses P.keeps_vol vols.items) }
+        ensures err { IfErr result (FailsToOpen P.seen P.vol P.holds P.reads P.left P.clock P.faults P.room_causes P.base P.opens P.refuses P.keeps_vol vols.items) }
     {
         let (places, vols) = open_places(alloc, vols)?;
         let mut vols = vols;
@@ -96,7 +97,7 @@ impl<P: Place> SoloDesk<P> {
         now: Moment,
     ) -> Result<Option<ApiError>, DeskFault>
         requires subject { IsTrue (is_stream_subject subject.now) }
-        ensures made { Makes (λ old entries new. DeskMade P.keeps_vol P.holds P.left P.clock P.base old entries new) (MakesStream name.now (default_config name.now subject.now) now result) self.old self.new }
+        ensures made { Makes (λ old entries new. DeskMade P.keeps_vol P.holds P.left P.clock P.base P.room_causes.outgrows_log old entries new) (MakesStream name.now (default_config name.now subject.now) now result) self.old self.new }
         ensures client { self.new.client ≡ self.old.client }
     {
         make_stream(&mut self.ground, name, subject, now)
@@ -121,7 +122,7 @@ impl<P: Place> SoloDesk<P> {
 impl<P: Place> Desk for SoloDesk<P> {
     ghost client = { λ desk. desk.client };
 
-    ghost made = { λ old entries new. DeskMade P.keeps_vol P.holds P.left P.clock P.base old entries new };
+    ghost made = { λ old entries new. DeskMade P.keeps_vol P.holds P.left P.clock P.base P.room_causes.outgrows_log old entries new };
 
     ghost left = { λ desk. frames_left desk };
 
@@ -171,7 +172,7 @@ impl<P: Place> Desk for SoloDesk<P> {
         closed
     }
 
-    ghost made_nothing = { λ desk. (leads_nothing SoloStep desk.scene, kept_none P.keeps_vol P.keeps_none desk.vols, outlast_none P.holds P.left P.clock P.base P.earlier (row_in desk)) };
+    ghost made_nothing = { λ desk. (leads_nothing SoloStep desk.scene, kept_none P.keeps_vol P.keeps_none desk.vols, outlast_none P.holds P.left P.clock P.base P.earlier (row_in desk), tt) };
 
-    ghost made_more = { λ a b c first more h k. (leads_more SoloStep a.scene b.scene c.scene first more h.0 k.0, kept_more P.keeps_vol P.keeps_more a.vols b.vols c.vols h.1 k.1, outlast_more P.holds P.left P.clock P.base first more (row_in a) (row_in b) (row_in c) h.2 k.2) };
+    ghost made_more = { λ a b c first more h k. (leads_more SoloStep a.scene b.scene c.scene first more h.0 k.0, kept_more P.keeps_vol P.keeps_more a.vols b.vols c.vols h.1 k.1, outlast_more P.holds P.left P.clock P.base first more (row_in a) (row_in b) (row_in c) h.2 k.2, outgrown_more P.room_causes.outgrows_log first more h.3 k.3) };
 }

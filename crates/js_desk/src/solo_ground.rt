@@ -9,6 +9,7 @@ ghost use Rattle.js_model.specs.Routing.{waiting_for};
 ghost use Rattle.std.proofs.Common.{refl, ◌∙◌};
 ghost use Rattle.desk_places.specs.Places.{places_by};
 ghost use Rattle.js_desk.specs.Grounds.{SoloMade, row_of, setting_of};
+ghost use Rattle.js_desk.specs.Outgrown.{outgrown_more};
 ghost use Rattle.js_desk.specs.Outlasting.{outlast_more, outlast_none};
 ghost use Rattle.js_desk.specs.Kept.{kept_more, kept_none};
 ghost use Rattle.desk_ground.specs.Grounds.{Outside};
@@ -103,7 +104,7 @@ impl<P: Place> SoloGround<P> {
 }
 
 impl<P: Place> Ground for SoloGround<P> {
-    ghost made = { λ old entries new. SoloMade P.keeps_vol P.holds P.left P.clock P.base old entries new };
+    ghost made = { λ old entries new. SoloMade P.keeps_vol P.holds P.left P.clock P.base P.room_causes.outgrows_log old entries new };
 
     ghost setting = { λ ground. setting_of ground.scene };
 
@@ -232,7 +233,7 @@ impl<P: Place> Ground for SoloGround<P> {
         outcome
     }
 
-    ghost made_nothing = { λ ground. (leads_nothing SoloStep ground.scene, kept_none P.keeps_vol P.keeps_none ground.vols, outlast_none P.holds P.left P.clock P.base P.earlier (row_of ground)) };
+    ghost made_nothing = { λ ground. (leads_nothing SoloStep ground.scene, kept_none P.keeps_vol P.keeps_none ground.vols, outlast_none P.holds P.left P.clock P.base P.earlier (row_of ground), tt) };
 
-    ghost made_more = { λ a b c first more h k. (leads_more SoloStep a.scene b.scene c.scene first more h.0 k.0, kept_more P.keeps_vol P.keeps_more a.vols b.vols c.vols h.1 k.1, outlast_more P.holds P.left P.clock P.base first more (row_of a) (row_of b) (row_of c) h.2 k.2) };
+    ghost made_more = { λ a b c first more h k. (leads_more SoloStep a.scene b.scene c.scene first more h.0 k.0, kept_more P.keeps_vol P.keeps_more a.vols b.vols c.vols h.1 k.1, outlast_more P.holds P.left P.clock P.base first more (row_of a) (row_of b) (row_of c) h.2 k.2, outgrown_more P.room_causes.outgrows_log first more h.3 k.3) };
 }

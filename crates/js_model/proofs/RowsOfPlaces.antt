@@ -6,6 +6,7 @@ use Rattle.js_model.specs.declared.ack.AckKind.TheVariants.{Ack as Acknowledge}
 use Rattle.js_model.specs.declared.event.GetBy.TheVariants.{Seq}
 use Rattle.js_model.specs.declared.event.What.{What}
 use Rattle.js_model.specs.declared.event.What.TheVariants.{Change, Drop as DropStream, Purge, Delete, DropConsumer, Tick, StreamInfo as AskStream, MessageGet, ConsumerInfo as AskConsumer, ConsumerNames, ConsumerList}
+use Rattle.js_model.specs.declared.reply.Reply.{Reply}
 use Rattle.js_model.specs.declared.reply.Reply.TheVariants.{Info as StreamTold, Published, Silent, Refused}
 use Rattle.js_model.specs.Refusals.{refusal}
 use Rattle.js_model.specs.Advance.{advance, advance_outs}
@@ -129,14 +130,14 @@ expected_first : reply_to (at_last 4611686018427387903) (publish (codes "orders.
 unfolding answered advance advance_outs kept trim verdict
 expected_first = refl
 
--- and it is told before the lack of a block
-before_block : (answered (at_last 4611686018427387903) (event hello) t0 false).reply ≡ Refused (refusal 503 20008 (codes "number range used up"))
+-- and it is told before the want of room
+before_room : (answered (at_last 4611686018427387903) (event hello) t0 false).reply ≡ Refused (refusal 503 20008 (codes "number range used up"))
 unfolding answered advance advance_outs kept trim verdict
-before_block = refl
+before_room = refl
 
-no_block : (answered (at_last 4611686018427387902) (event hello) t0 false).reply ≡ Refused (refusal 503 20016 (codes "no free block"))
+no_room_left : (answered (at_last 4611686018427387902) (event hello) t0 false).reply ≡ Refused (refusal 503 20016 (codes "no room"))
 unfolding answered advance advance_outs kept trim verdict
-no_block = refl
+no_room_left = refl
 
 -- the last stream of a place is made
 abbrev incarnation_of : State → List ℕ
@@ -187,3 +188,47 @@ last_delivery = refl
 no_delivery : some_ready (at_consumer_sequence 4611686018427387903) t0 (codes "W" ∷ []) ≡ false
 unfolding advance candidates
 no_delivery = refl
+
+-- ---- without room
+
+-- a stream without messages and consumers
+abbrev stream_of_orders : State
+stream_of_orders = at_last 0
+
+abbrev without_room : What → Reply
+without_room what = (answered stream_of_orders (event what) t0 false).reply
+
+abbrev refused : Reply
+refused = Refused (refusal 503 20016 (codes "no room"))
+
+no_stream_made : answered (Vacant 3) (event (make orders)) t0 false ≡ record { reply = refused; outs = []; state = Vacant 3 }
+unfolding answered
+no_stream_made = refl
+
+-- that the numbers are used up is told first
+used_up_first : (answered (Vacant 4611686018427387903) (event (make orders)) t0 false).reply ≡ Refused (refusal 503 20008 (codes "number range used up"))
+unfolding answered
+used_up_first = refl
+
+no_consumer_made : answered stream_of_orders (event (make_consumer worker)) t0 false ≡ record { reply = refused; outs = []; state = stream_of_orders }
+unfolding answered advance advance_outs kept trim
+no_consumer_made = refl
+
+-- one that is there is told
+consumer_stands : (answered (at_consumer_sequence 0) (event (make_consumer (record worker { deliver_subject = codes "D" }))) t0 false).reply
+    ≡ (answered (at_consumer_sequence 0) (event (make_consumer (record worker { deliver_subject = codes "D" }))) t0 true).reply
+unfolding answered advance advance_outs kept trim
+consumer_stands = refl
+
+no_other_config : answered stream_of_orders (event (Change inbox (record orders { max_msgs = Some 5 }))) t0 false ≡ record { reply = refused; outs = []; state = stream_of_orders }
+unfolding answered advance advance_outs kept trim
+no_other_config = refl
+
+-- the configuration that stands is told, and so is a stream that is made again
+same_config : without_room (Change inbox orders) ≡ (answered stream_of_orders (event (Change inbox orders)) t0 true).reply
+unfolding answered advance advance_outs kept trim
+same_config = refl
+
+made_again : without_room (make orders) ≡ (answered stream_of_orders (event (make orders)) t0 true).reply
+unfolding answered advance advance_outs kept trim
+made_again = refl

@@ -27,7 +27,7 @@ use Rattle.js_model.specs.declared.reply.Reply.{Reply}
 pub use Rattle.js_model.specs.declared.reply.Answer.{Answer}
 use Rattle.js_model.specs.declared.reply.Reply.TheVariants.{Info as StreamTold, Done, Published, Duplicate, Purged, ConsumerInfo as ConsumerTold, Message as MessageTold, Names, Infos, Confirmed, Silent, Nobody, Refused}
 use Rattle.js_model.specs.Streams.{only, by_name, with_consumer, passes_filter, seqs}
-use Rattle.js_model.specs.Refusals.{first_refusal, no_stream, other_config, numbers_used_up, retention_cannot_change, no_message, no_consumer, consumer_absent, consumer_exists}
+use Rattle.js_model.specs.Refusals.{first_refusal, no_stream, other_config, numbers_used_up, retention_cannot_change, no_message, no_consumer, consumer_absent, consumer_exists, no_room}
 use Rattle.js_model.specs.Configs.{same_stream_config, same_consumer_config, same_retention}
 use Rattle.js_model.specs.Advance.{advance, advance_outs, status_out}
 use Rattle.js_model.specs.Retention.{kept}
@@ -77,9 +77,13 @@ stream_told s = quietly (StreamTold (stream_info (settled s))) s
 abbrev pub made_again : Stream → StreamConfig → Answer
 made_again s config = if same_stream_config config s.config then stream_told s else refused other_config s
 
-abbrev pub changed : Stream → StreamConfig → Answer
-changed s config =
-    if same_retention config.retention s.config.retention then stream_told (record s { config = config }) else refused retention_cannot_change s
+-- another configuration, if there is room for it
+abbrev pub with_config : Stream → StreamConfig → Bool → Answer
+with_config s config true = stream_told (record s { config = config })
+with_config s config false = if same_stream_config config s.config then stream_told s else refused no_room s
+
+abbrev pub changed : Stream → StreamConfig → Bool → Answer
+changed s config room = if same_retention config.retention s.config.retention then with_config s config room else refused retention_cannot_change s
 
 -- a 409 for each waiting pull of a consumer that goes
 abbrev pub farewells : Consumer → List Out
@@ -147,15 +151,21 @@ told_of s (Some c) = quietly (ConsumerTold (consumer_info (settled s) c)) s
 abbrev pub consumer_told : Stream → Bytes → Answer
 consumer_told s name = told_of s (by_name (settled s).consumers name)
 
--- a consumer that is not there is made, if no rule refuses it
+-- a consumer that is not there is made, if nothing refuses it
 abbrev pub consumer_made : Stream → Bytes → ConsumerConfig → Option ApiError → Answer
 consumer_made s name config None = consumer_told (record s { consumers = with_new s.consumers (new_consumer s name config) }) name
 consumer_made s name config (Some e) = refused e s
 
-abbrev pub consumer_asked : Stream → Bytes → ConsumerConfig → Bool → Option Consumer → Answer
-consumer_asked s name config true None = refused consumer_absent s
-consumer_asked s name config false None = consumer_made s name config (first_refusal (making_checks s name config))
-consumer_asked s name config update (Some c) =
+-- the refusal of the first rule that forbids it, and else that there is no room
+abbrev pub or_no_room : Bool → Option ApiError → Option ApiError
+or_no_room true refusal = refusal
+or_no_room false None = Some no_room
+or_no_room false (Some e) = Some e
+
+abbrev pub consumer_asked : Stream → Bytes → ConsumerConfig → Bool → Bool → Option Consumer → Answer
+consumer_asked s name config true room None = refused consumer_absent s
+consumer_asked s name config false room None = consumer_made s name config (or_no_room room (first_refusal (making_checks s name config)))
+consumer_asked s name config update room (Some c) =
     if same_consumer_config config c.config then consumer_told s name else refused (unwrap_or (first_refusal (queue_checks s name config)) consumer_exists) s
 
 abbrev pub consumer_dropped : Stream → Option Consumer → Answer
@@ -223,12 +233,12 @@ ack_answer s reply n kind (Some c) = if is_no_delivery c n then quietly Silent s
 -- what an event does to a stream at its moment
 abbrev pub stream_answer : Stream → What → Bool → Answer
 stream_answer s (Make reply config) room = made_again s config
-stream_answer s (Change reply config) room = changed s config
+stream_answer s (Change reply config) room = changed s config room
 stream_answer s (DropStream reply) room = dropped s
 stream_answer s (PublishIt p) room = published s p (verdict s p room)
 stream_answer s (Purge reply pattern below keep) room = purged s (purge_list s pattern below keep)
 stream_answer s (Delete reply n) room = deleted s (message_at s n)
-stream_answer s (MakeConsumer reply name config update) room = consumer_asked s name config update (by_name s.consumers name)
+stream_answer s (MakeConsumer reply name config update) room = consumer_asked s name config update room (by_name s.consumers name)
 stream_answer s (DropConsumer reply name) room = consumer_dropped s (by_name s.consumers name)
 stream_answer s (AckIt reply ack) room = ack_answer s reply ack.seq ack.kind (by_name s.consumers ack.consumer)
 stream_answer s (PullIt reply name ask) room = pull_answer s reply ask (by_name s.consumers name)
@@ -242,24 +252,48 @@ stream_answer s (ConsumerList reply offset) room = infos_told s offset
 abbrev pub vacantly : Reply → ℕ → Answer
 vacantly reply i = record { reply = reply; outs = []; state = Vacant i }
 
+-- a stream is made, if there is room for it
+abbrev pub stream_made : ℕ → StreamConfig → ℕ → Bool → Answer
+stream_made i config now true = stream_told (empty_stream (i + 1) config now)
+stream_made i config now false = vacantly (Refused no_room) i
+
 -- what an event does if there is no stream
-abbrev pub vacant_answer : ℕ → What → ℕ → Answer
-vacant_answer i (Make reply config) now = if i + 1 == 2 ^ 62 then vacantly (Refused numbers_used_up) i else stream_told (empty_stream (i + 1) config now)
-vacant_answer i Tick now = vacantly Silent i
-vacant_answer i (Change reply config) now = vacantly (Refused no_stream) i
-vacant_answer i (DropStream reply) now = vacantly (Refused no_stream) i
-vacant_answer i (PublishIt p) now = vacantly (Refused no_stream) i
-vacant_answer i (Purge reply pattern below keep) now = vacantly (Refused no_stream) i
-vacant_answer i (Delete reply n) now = vacantly (Refused no_stream) i
-vacant_answer i (MakeConsumer reply name config update) now = vacantly (Refused no_stream) i
-vacant_answer i (DropConsumer reply name) now = vacantly (Refused no_stream) i
-vacant_answer i (AckIt reply ack) now = vacantly (Refused no_stream) i
-vacant_answer i (PullIt reply name ask) now = vacantly (Refused no_stream) i
-vacant_answer i (AskStream reply) now = vacantly (Refused no_stream) i
-vacant_answer i (MessageGet reply by) now = vacantly (Refused no_stream) i
-vacant_answer i (AskConsumer reply name) now = vacantly (Refused no_stream) i
-vacant_answer i (ConsumerNames reply offset) now = vacantly (Refused no_stream) i
-vacant_answer i (ConsumerList reply offset) now = vacantly (Refused no_stream) i
+abbrev pub vacant_answer : ℕ → What → ℕ → Bool → Answer
+vacant_answer i (Make reply config) now room = if i + 1 == 2 ^ 62 then vacantly (Refused numbers_used_up) i else stream_made i config now room
+vacant_answer i Tick now room = vacantly Silent i
+vacant_answer i (Change reply config) now room = vacantly (Refused no_stream) i
+vacant_answer i (DropStream reply) now room = vacantly (Refused no_stream) i
+vacant_answer i (PublishIt p) now room = vacantly (Refused no_stream) i
+vacant_answer i (Purge reply pattern below keep) now room = vacantly (Refused no_stream) i
+vacant_answer i (Delete reply n) now room = vacantly (Refused no_stream) i
+vacant_answer i (MakeConsumer reply name config update) now room = vacantly (Refused no_stream) i
+vacant_answer i (DropConsumer reply name) now room = vacantly (Refused no_stream) i
+vacant_answer i (AckIt reply ack) now room = vacantly (Refused no_stream) i
+vacant_answer i (PullIt reply name ask) now room = vacantly (Refused no_stream) i
+vacant_answer i (AskStream reply) now room = vacantly (Refused no_stream) i
+vacant_answer i (MessageGet reply by) now room = vacantly (Refused no_stream) i
+vacant_answer i (AskConsumer reply name) now room = vacantly (Refused no_stream) i
+vacant_answer i (ConsumerNames reply offset) now room = vacantly (Refused no_stream) i
+vacant_answer i (ConsumerList reply offset) now room = vacantly (Refused no_stream) i
+
+-- what may make a place hold more, and so asks for room; all else has what it needs
+abbrev pub asks_room : What → Bool
+asks_room (Make reply config) = true
+asks_room (Change reply config) = true
+asks_room (PublishIt p) = true
+asks_room (MakeConsumer reply name config update) = true
+asks_room (DropStream reply) = false
+asks_room (Purge reply pattern below keep) = false
+asks_room (Delete reply n) = false
+asks_room (DropConsumer reply name) = false
+asks_room (AckIt reply ack) = false
+asks_room (PullIt reply name ask) = false
+asks_room Tick = false
+asks_room (AskStream reply) = false
+asks_room (MessageGet reply by) = false
+asks_room (AskConsumer reply name) = false
+asks_room (ConsumerNames reply offset) = false
+asks_room (ConsumerList reply offset) = false
 
 -- the incarnation that an event for the place names
 abbrev pub kept_incarnation : State → ℕ
@@ -270,9 +304,9 @@ kept_incarnation (Live s) = s.incarnation
 abbrev pub completed : List Out → Answer → Answer
 completed outs a = record { reply = a.reply; outs = outs ++ a.outs; state = settled_state a.state }
 
--- what an event does at a moment; `room` is whether the store has a block for a message
+-- what an event does at a moment; `room` is whether there is room for it
 unfoldable pub answered : State → Event → ℕ → Bool → Answer
-answered (Vacant i) e now room = completed [] (vacant_answer i e.what now)
+answered (Vacant i) e now room = completed [] (vacant_answer i e.what now room)
 answered (Live s) e now room = completed (advance_outs s now) (stream_answer (advance s now) e.what room)
 
 -- the event answers this, sends this and leaves this

@@ -3,9 +3,11 @@ use Rattle.std.specs.Prelude.{ℕ, Option, None}
 use Rattle.js_model.specs.declared.stream.State.{State}
 use Rattle.js_model.specs.declared.stream.State.TheVariants.{Vacant}
 
--- where a volume stands: its count of faults, how many of its calls it had answered, and the generation of its log, 0 if nothing is told of these
+-- where a volume stands: how often it failed, how often it refused room, how many of its calls it had answered, and the generation of its log; each is 0 if
+-- nothing is told of it
 pub record VolumeAt : Type 0 where
   pub faults : ℕ
+  pub refusals : ℕ
   pub moment : ℕ
   pub generation : ℕ
 
@@ -19,9 +21,9 @@ pub record PlaceIn : Type 0 where
 
 -- where a volume stands of which nothing is told
 abbrev pub untold : VolumeAt
-untold = record { faults = 0; moment = 0; generation = 0 }
+untold = record { faults = 0; refusals = 0; moment = 0; generation = 0 }
 
--- a place in memory, whose store has a block for each message
+-- a place in memory, where there is room for each message
 abbrev pub in_memory : State → PlaceIn
 in_memory state = record { state = state; stored = 0; stopped = None; volume = untold }
 

@@ -53,9 +53,6 @@ store_fault = refusal 503 20011 (codes "store fault")
 abbrev pub stream_stopped : ApiError
 stream_stopped = refusal 503 20012 (codes "stream stopped")
 
-abbrev pub log_full : ApiError
-log_full = refusal 503 20023 (codes "log full")
-
 abbrev pub numbers_used_up : ApiError
 numbers_used_up = refusal 503 20008 (codes "number range used up")
 
@@ -82,8 +79,9 @@ window_full = refusal 503 20013 (codes "duplicate window full")
 abbrev pub id_too_long : ApiError
 id_too_long = refusal 400 20014 (codes "message id too long")
 
-abbrev pub no_free_block : ApiError
-no_free_block = refusal 503 20016 (codes "no free block")
+-- the disk is full, no file is free for a block, or the place would hold more than a log can begin with
+abbrev pub no_room : ApiError
+no_room = refusal 503 20016 (codes "no room")
 
 abbrev pub message_too_large : ApiError
 message_too_large = refusal 400 20018 (codes "message too large")

@@ -27,18 +27,17 @@ messages_of (Live s) = s.messages
 abbrev pub new_messages : State → State → List Message
 new_messages old new = filter (λ m. not (has (seqs (messages_of old)) m.seq)) (messages_of new)
 
--- few enough messages were there at first or were stored since that the store has a block for one more
+-- few enough messages were there at first or were stored since that a file is free for one more
 abbrev pub is_few : ℕ → Bool
 is_few count = nat_lt count 65533
 
 -- ---- one step
 
--- a proper event, for which the store has a block if there were few messages so far
+-- a proper event, for which there is room or not
 pub record IsStep (count : ℕ) (old : State) (e : Event) (now : ℕ) (reply : Reply) (outs : List Out) (new : State) : Type 0 where
   pub event : IsEvent old e now reply outs new
   pub proper : IsTrue (is_proper e)
   pub moment : now < 2 ^ 62
-  pub free : is_few count ≡ true → event.room ≡ true
 
 pub record IsDeliverStep (old : State) (now : ℕ) (listening : List Bytes) (d : Delivery) (outs : List Out) (new : State) : Type 0 where
   pub delivered : IsDelivered old now listening d outs new

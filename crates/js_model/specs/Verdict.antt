@@ -13,7 +13,7 @@ use Rattle.js_model.specs.declared.reply.Verdict.{Verdict}
 use Rattle.js_model.specs.declared.reply.Verdict.TheVariants.{Take, Duplicate as TakenBefore, Refused as RefusedBy}
 use Rattle.js_model.specs.Streams.{size, over_limit}
 use Rattle.js_model.specs.Trim.{newest_at, max_messages}
-use Rattle.js_model.specs.Refusals.{Check, first_refusal, message_too_large, bad_header_number, id_too_long, wrong_stream, wrong_last, wrong_last_id, max_messages_exceeded, max_bytes_exceeded, window_full, numbers_used_up, no_free_block}
+use Rattle.js_model.specs.Refusals.{Check, first_refusal, message_too_large, bad_header_number, id_too_long, wrong_stream, wrong_last, wrong_last_id, max_messages_exceeded, max_bytes_exceeded, window_full, numbers_used_up, no_room}
 
 -- the message that a publish stores
 abbrev pub message_of : Stream → Publish → Message
@@ -81,7 +81,7 @@ late_checks s p room =
     ∷ (discards_new s && over_limit (sum_by size (held_after s p)) s.config.max_bytes, max_bytes_exceeded)
     ∷ (not (is_empty p.wants.id) && nat_le (2 ^ 20) (length s.ids), window_full)
     ∷ (s.last + 1 == 2 ^ 62, numbers_used_up)
-    ∷ (not room, no_free_block)
+    ∷ (not room, no_room)
     ∷ []
 
 -- an early refusal, a duplicate, a late refusal, or taken
@@ -91,6 +91,6 @@ first_of_all None (Some i) late = TakenBefore i.seq
 first_of_all None None (Some e) = RefusedBy e
 first_of_all None None None = Take
 
--- what a stream answers a publish; `room` is whether the store has a block for the message
+-- what a stream answers a publish; `room` is whether there is room for it
 unfoldable pub verdict : Stream → Publish → Bool → Verdict
 verdict s p room = first_of_all (first_refusal (early_checks s p)) (known s p.wants.id) (first_refusal (late_checks s p room))

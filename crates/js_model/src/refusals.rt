@@ -101,11 +101,12 @@ pub fn id_too_long(alloc: Global) -> Result<ApiError, NoMemory>
     refusal(alloc, 400, 20014, b"message id too long")
 }
 
-/// The store has no block for the message.
-pub fn no_free_block(alloc: Global) -> Result<ApiError, NoMemory>
-    ensures value { IfOk result (λ error. error ≡ refusals.no_free_block) }
+/// There is no room for a message, a consumer, a stream or another configuration: the disk is full, no file is free for a block, or the place would hold more
+/// than a log can begin with.
+pub fn no_room(alloc: Global) -> Result<ApiError, NoMemory>
+    ensures value { IfOk result (λ error. error ≡ refusals.no_room) }
 {
-    refusal(alloc, 503, 20016, b"no free block")
+    refusal(alloc, 503, 20016, b"no room")
 }
 
 /// The message is larger than the stream takes.
@@ -226,13 +227,6 @@ pub fn stream_stopped(alloc: Global) -> Result<ApiError, NoMemory>
     ensures value { IfOk result (λ error. error ≡ refusals.stream_stopped) }
 {
     refusal(alloc, 503, 20012, b"stream stopped")
-}
-
-/// The log of the store would be longer than it may be, and the stream is stopped.
-pub fn log_full(alloc: Global) -> Result<ApiError, NoMemory>
-    ensures value { IfOk result (λ error. error ≡ refusals.log_full) }
-{
-    refusal(alloc, 503, 20023, b"log full")
 }
 
 /// Every place is used.

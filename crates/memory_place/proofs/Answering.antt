@@ -100,7 +100,7 @@ made_same s config same = ap (λ (b : Bool). if b then stream_told s else refuse
 pub made_other : (s : Stream) (config : StreamConfig) → same_stream_config config s.config ≡ false → made_again s config ≡ refused other_config s
 made_other s config other = ap (λ (b : Bool). if b then stream_told s else refused other_config s) other
 
-pub changed_same : (s : Stream) (config : StreamConfig) → same_retention config.retention s.config.retention ≡ true → changed s config ≡ stream_told (record s { config = config })
+pub changed_same : (s : Stream) (config : StreamConfig) → same_retention config.retention s.config.retention ≡ true → changed s config true ≡ stream_told (record s { config = config })
 changed_same s config same = ap (λ (b : Bool). if b then stream_told (record s { config = config }) else refused retention_cannot_change s) same
 
 -- what is let go of what the limits keep
@@ -178,26 +178,26 @@ module _ (s : Stream) (name : Bytes) (config : ConsumerConfig) (update : Bool) w
   is_same c = same_consumer_config config c.config
 
   pub asked_new : update ≡ false → None ≡ option_map is_same (by_name s.consumers name)
-      → consumer_asked s name config update (by_name s.consumers name) ≡ consumer_made s name config (first_refusal (making_checks s name config))
+      → consumer_asked s name config update true (by_name s.consumers name) ≡ consumer_made s name config (first_refusal (making_checks s name config))
   asked_new is found = go (by_name s.consumers name) update is found
     where
-      go : (o : Option Consumer) (b : Bool) → b ≡ false → None ≡ option_map is_same o → consumer_asked s name config b o ≡ consumer_made s name config (first_refusal (making_checks s name config))
+      go : (o : Option Consumer) (b : Bool) → b ≡ false → None ≡ option_map is_same o → consumer_asked s name config b true o ≡ consumer_made s name config (first_refusal (making_checks s name config))
       go None true e f = absurd (true≢false e)
       go None false e f = refl
       go (Some c) b e f = absurd (none_some f)
 
-  pub asked_absent : update ≡ true → None ≡ option_map is_same (by_name s.consumers name) → consumer_asked s name config update (by_name s.consumers name) ≡ refused consumer_absent s
+  pub asked_absent : update ≡ true → None ≡ option_map is_same (by_name s.consumers name) → consumer_asked s name config update true (by_name s.consumers name) ≡ refused consumer_absent s
   asked_absent is found = go (by_name s.consumers name) update is found
     where
-      go : (o : Option Consumer) (b : Bool) → b ≡ true → None ≡ option_map is_same o → consumer_asked s name config b o ≡ refused consumer_absent s
+      go : (o : Option Consumer) (b : Bool) → b ≡ true → None ≡ option_map is_same o → consumer_asked s name config b true o ≡ refused consumer_absent s
       go None true e f = refl
       go None false e f = absurd (true≢false (sym e))
       go (Some c) b e f = absurd (none_some f)
 
-  pub asked_same : Some true ≡ option_map is_same (by_name s.consumers name) → consumer_asked s name config update (by_name s.consumers name) ≡ consumer_told s name
+  pub asked_same : Some true ≡ option_map is_same (by_name s.consumers name) → consumer_asked s name config update true (by_name s.consumers name) ≡ consumer_told s name
   asked_same found = go (by_name s.consumers name) update found
     where
-      go : (o : Option Consumer) (b : Bool) → Some true ≡ option_map is_same o → consumer_asked s name config b o ≡ consumer_told s name
+      go : (o : Option Consumer) (b : Bool) → Some true ≡ option_map is_same o → consumer_asked s name config b true o ≡ consumer_told s name
       go None b f = absurd (none_some (sym f))
       go (Some c) true f = ap (λ (x : Bool). if x then consumer_told s name else refused (unwrap_or (first_refusal (queue_checks s name config)) consumer_exists) s) (sym (some_is f))
       go (Some c) false f = ap (λ (x : Bool). if x then consumer_told s name else refused (unwrap_or (first_refusal (queue_checks s name config)) consumer_exists) s) (sym (some_is f))

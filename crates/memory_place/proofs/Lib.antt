@@ -1,6 +1,7 @@
 pub mod Answering
 pub mod Passing
 pub mod WithoutRoom
+pub mod Needing
 pub mod VerdictTexts
 pub mod Shown
 pub mod Places

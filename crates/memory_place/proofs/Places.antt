@@ -1,5 +1,5 @@
 -- What a place answers if there is no stream, and as time passes.
-use Rattle.std.proofs.Common.{◌≡◌, ◌≢◌, ℕ, ◌+◌, ◌^◌, List, [], ◌++◌, append-nil, Bool, if◌then◌else◌, Option, ap, sym, ◌∙◌, refl}
+use Rattle.std.proofs.Common.{◌≡◌, ◌≢◌, ℕ, ◌+◌, ◌^◌, List, [], ◌++◌, append-nil, Bool, true, if◌then◌else◌, Option, ap, sym, ◌∙◌, refl}
 use Rattle.std.proofs.lemmas.Bool.{eq-eqb, ne_eqb}
 use Rattle.js_base.specs.Bytes.{Bytes}
 use Rattle.js_base.specs.declared.out.Out.{Out}
@@ -51,7 +51,7 @@ makes_none (Vacant i) subject config now outs vacant used =
     (ap (λ (b : Bool). completed [] (if b then vacantly (Refused numbers_used_up) i else stream_told (empty_stream (i + 1) config now))) (eq-eqb (i + 1) (2 ^ 62) used))
 makes_none (Live s) subject config now outs vacant used = absurd vacant
 
-refused_is : (i : ℕ) (what : What) (now : ℕ) → ((subject : Option Bytes) (config : StreamConfig) → what ≢ Make subject config) → what ≢ Tick → vacant_answer i what now ≡ vacantly (Refused no_stream) i
+refused_is : (i : ℕ) (what : What) (now : ℕ) → ((subject : Option Bytes) (config : StreamConfig) → what ≢ Make subject config) → what ≢ Tick → vacant_answer i what now true ≡ vacantly (Refused no_stream) i
 refused_is i (Make subject config) now other more = absurd (other subject config refl)
 refused_is i (Change subject config) now other more = refl
 refused_is i (DropStream subject) now other more = refl

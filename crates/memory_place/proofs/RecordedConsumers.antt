@@ -98,7 +98,7 @@ module _ (s : Stream) (to : Option Bytes) (name : Bytes) (config : ConsumerConfi
       ∙ ap (λ (ns : List ℕ). made_effect (cursor_at config.deliver_policy config.filter_subject s) ns ∷ settle_effects [] (Live with_it)) picks_is
       ∙ ap (λ (state : State). made_effects s name config None ++ settle_effects [] state) (sym (told_state with_it (by_name (settled with_it).consumers name)))
       ∙ ap (λ (e : Option ApiError). made_effects s name config e ++ settle_effects [] (consumer_made s name config e).state) (sym allowed)
-      ∙ ap (λ (o : Option Consumer). make_effects s name config false o ++ settle_effects [] (consumer_asked s name config false o).state) (sym absent)
+      ∙ ap (λ (o : Option Consumer). make_effects s name config false true o ++ settle_effects [] (consumer_asked s name config false true o).state) (sym absent)
 
   -- a rule forbids it
   pub makes_none : (own : OwnRecords) (e : ApiError) → by_name s.consumers name ≡ None → first_refusal (making_checks s name config) ≡ Some e → IsFreshOwn own → trim s ≡ s
@@ -106,7 +106,7 @@ module _ (s : Stream) (to : Option Bytes) (name : Bytes) (config : ConsumerConfi
   makes_none own e absent forbidden fresh within =
       rests own s fresh within
       ∙ ap (λ (e : Option ApiError). made_effects s name config e ++ settle_effects [] (consumer_made s name config e).state) (sym forbidden)
-      ∙ ap (λ (o : Option Consumer). make_effects s name config false o ++ settle_effects [] (consumer_asked s name config false o).state) (sym absent)
+      ∙ ap (λ (o : Option Consumer). make_effects s name config false true o ++ settle_effects [] (consumer_asked s name config false true o).state) (sym absent)
 
   -- one is there, or an update asks for one that is not
   present : (c : Consumer) → (cond (same_consumer_config config c.config) (consumer_told s name) (refused (unwrap_or (first_refusal (queue_checks s name config)) consumer_exists) s)).state ≡ Live s
@@ -116,7 +116,7 @@ module _ (s : Stream) (to : Option Bytes) (name : Bytes) (config : ConsumerConfi
       go true = told_state s (by_name (settled s).consumers name)
       go false = refl
 
-  asked_state : (update : Bool) (o : Option Consumer) → (o ≡ None → update ≡ true) → make_effects s name config update o ++ settle_effects [] (consumer_asked s name config update o).state ≡ settle_effects [] (Live s)
+  asked_state : (update : Bool) (o : Option Consumer) → (o ≡ None → update ≡ true) → make_effects s name config update true o ++ settle_effects [] (consumer_asked s name config update true o).state ≡ settle_effects [] (Live s)
   asked_state true None h = refl
   asked_state false None h = absurd (true≢false (sym (h refl)))
   asked_state true (Some c) h = ap (settle_effects []) (present c)

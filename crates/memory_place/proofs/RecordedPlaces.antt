@@ -41,17 +41,17 @@ use Rattle.place_records.specs.Records.{own_in, IsFreshOwn}
 use Rattle.removals.specs.Removed.{Removed}
 use Rattle.place_engine.specs.InMemory.{left_of}
 use Rattle.place_engine.specs.Places.{IsVacant}
-use Rattle.memory_place.specs.Recording.{asking_effects, own_then, HasOwnRoom, passing_effects, sent_effect, TellsLeft}
+use Rattle.memory_place.specs.Recording.{asking_effects, asking_effects_in, own_then, HasOwnRoom, passing_effects, sent_effect, TellsLeft}
 use Rattle.memory_place.proofs.Recorded.{effect_in, none_in}
 
 -- ---- events
 
 -- time's, and what was asked once time had come
-pub event_told : (old mid : State) (what : What) (now : ℕ) (time own : List Effect) → mid ≡ state_at old now → time ≡ passing_effects old now → own ≡ asking_effects mid what now → time ++ own ≡ event_effects old what now true
-event_told old mid what now time own passed of_time asked =
-    ap (λ (es : List Effect). es ++ own) of_time ∙ ap (λ (es : List Effect). passing_effects old now ++ es) (asked ∙ ap (λ (m : State). asking_effects m what now) passed) ∙ go old
+pub event_told : (room : Bool) (old mid : State) (what : What) (now : ℕ) (time own : List Effect) → mid ≡ state_at old now → time ≡ passing_effects old now → own ≡ asking_effects_in room mid what now → time ++ own ≡ event_effects old what now room
+event_told room old mid what now time own passed of_time asked =
+    ap (λ (es : List Effect). es ++ own) of_time ∙ ap (λ (es : List Effect). passing_effects old now ++ es) (asked ∙ ap (λ (m : State). asking_effects_in room m what now) passed) ∙ go old
   where
-    go : (o : State) → passing_effects o now ++ asking_effects (state_at o now) what now ≡ event_effects o what now true
+    go : (o : State) → passing_effects o now ++ asking_effects_in room (state_at o now) what now ≡ event_effects o what now room
     go (Vacant i) = refl
     go (Live s) = refl
 
@@ -89,7 +89,7 @@ delivery_told s t u now d old own after time all fresh same sent served within l
 
 -- ---- no stream
 
-none_asked : (i : ℕ) (what : What) (now : ℕ) → ((subject : Option Bytes) (config : StreamConfig) → what ≢ Make subject config) → vacant_effects i what now ≡ []
+none_asked : (i : ℕ) (what : What) (now : ℕ) → ((subject : Option Bytes) (config : StreamConfig) → what ≢ Make subject config) → vacant_effects i what now true ≡ []
 none_asked i (Make subject config) now other = absurd (other subject config refl)
 none_asked i (Change subject config) now other = refl
 none_asked i (DropStream subject) now other = refl

@@ -46,7 +46,7 @@ module _ (s : Stream) (to : Option Bytes) (config : StreamConfig) where
   with_config = record s { config = config }
 
   change_is : (own : OwnRecords) → same_retention config.retention s.config.retention ≡ true → own.effect ≡ cond (same_stream_config config s.config) None (Some (ChangeStream config)) → own.removed.ranges ≡ []
-      → own_in own ≡ change_effects s config
+      → own_in own ≡ change_effects s config true
   change_is own kept effect none =
       ap (λ (e : Option Effect). option_to_list e ++ map remove_of own.removed.ranges) effect
       ∙ ap (λ (rs : List Range). option_to_list (cond (same_stream_config config s.config) None (Some (ChangeStream config))) ++ map remove_of rs) none
@@ -65,7 +65,7 @@ module _ (s : Stream) (to : Option Bytes) (config : StreamConfig) where
       ∙ ap (λ (below : Option ℕ). own_in old ++ map remove_of (trim_ranges below with_config ++ leaving below (trim with_config).messages (kept (trim with_config)).messages)) noted
       ∙ ap (λ (es : List Effect). own_in old ++ es) (sym (settle_noted [] None 1 (s.last + 1) with_config order.ascends (all_noted s.messages (kept (trim with_config)).messages)))
       ∙ ap (λ (es : List Effect). es ++ settle_effects [] (Live with_config)) (change_is old kept_is effect none)
-      ∙ ap (λ (a : Answer). change_effects s config ++ settle_effects [] a.state) (sym (changed_same s config kept_is))
+      ∙ ap (λ (a : Answer). change_effects s config true ++ settle_effects [] a.state) (sym (changed_same s config kept_is))
 
   pub changes_nothing : (own : OwnRecords) → same_retention config.retention s.config.retention ≡ false → IsFreshOwn own → trim s ≡ s → own_then own s ≡ live_effects s (asked.Change to config) true
   changes_nothing own other fresh within =

@@ -1,11 +1,13 @@
 -- What a place in memory answers and delivers is a step and a delivery by the relations that each place keeps.
 use Rattle.std.proofs.Common.{◌≡◌, ℕ, List, Option, Some, None, Result, Ok, Err, refl, arith, inl}
+use Rattle.std.proofs.lemmas.Bool.{true≢false}
 use Rattle.std.proofs.lemmas.Option.{none-some}
 use Rattle.js_base.specs.Bytes.{Bytes}
 use Rattle.js_base.specs.declared.out.Out.{Out}
 use Rattle.js_model.specs.declared.stream.State.{State}
 use Rattle.js_model.specs.declared.event.Event.{Event}
 use Rattle.js_model.specs.declared.entry.Delivery.{Delivery}
+use Rattle.js_model.specs.declared.event.What.{What}
 use Rattle.js_model.specs.declared.event.What.TheVariants.{Tick}
 use Rattle.js_model.specs.declared.reply.Reply.{Reply}
 use Rattle.js_model.specs.declared.reply.Reply.TheVariants.{Silent}
@@ -16,11 +18,12 @@ use Rattle.place_engine.specs.declared.faults.PlaceFault.{PlaceFault}
 use Rattle.place_engine.specs.declared.faults.PlaceFault.TheVariants.{NoMemory}
 use Rattle.place_engine.specs.Delivering.{Delivers}
 use Rattle.place_engine.specs.InMemory.{seen_of, holds_nothing}
+use Rattle.place_engine.specs.Preparing.{Prepares}
 use Rattle.place_engine.specs.Stepping.{Elapses, IsFlushed, IsUndone, KeepsBase, Passes, Steps}
 use Rattle.memory_place.specs.Answers.{DeliversNone, DeliversSome, LeftBy, MayDeliver, PlaceAnswers}
 
 elapses : (old new : State) → Elapses holds_nothing (seen_of old) (seen_of new)
-elapses old new = record { faults = omega arith; moments = omega arith; generations = omega arith; goes_on = λ t image le left. absurd left }
+elapses old new = record { faults = omega arith; refusals = omega arith; moments = omega arith; generations = omega arith; goes_on = λ t image le left. absurd left }
 
 -- nothing ever waits
 flushed : (state : State) → IsFlushed (seen_of state)
@@ -55,7 +58,7 @@ tells old e now reply new outs_old outs_new kept answers =
         goes = refl;
         reply_is = given.reply_is;
         outs = given.outs_are;
-        commits = record { fits = λ full. full; firm = λ firm. flushed new; may = inl (flushed new) };
+        commits = record { firm = λ firm. flushed new; may = inl (flushed new) };
       };
       stored = omega arith;
       time = elapses old new;
@@ -68,12 +71,29 @@ starves old e now Nothing new outs_old outs_new kept h = record { ends = undone 
 starves old e now Ticked new outs_old outs_new kept h = record { ends = passes old e now new outs_old outs_new kept h; stored = omega arith; time = elapses old new }
 starves old e now (Unsaid refused) new outs_old outs_new kept h = absurd h
 
+-- ---- the preparing of an event
+
+-- there always is room
+pub prepares : (state : State) (what : What) → Prepares holds_nothing (λ s w. ⊥) (Ok tt) what (seen_of state) (seen_of state)
+prepares state what = record {
+  ends = record {
+    keeps = record { going = refl; state = refl; stored = refl };
+    goes = refl;
+    base = kept_base state state;
+    waiting = refl;
+    cause = λ none. absurd (true≢false none);
+  };
+  quiet = λ asks. record { volume = refl; images = λ t image left. left };
+  time = elapses state state;
+  images = λ t image le left. absurd left;
+}
+
 -- ---- deliveries
 
 pub delivers_some : (old : State) (now : ℕ) (listening : List Bytes) (made : Delivery) (new : State) (outs_old outs_new : List Out) → DeliversSome old now listening made outs_old outs_new new
     → Delivers holds_nothing (Ok (Some made)) now listening (seen_of old) (seen_of new) outs_old outs_new
 delivers_some old now listening made new outs_old outs_new h = record {
-  ends = record { sent = h.sent; makes = record { going = refl; delivered = h.delivered }; goes = refl; outs = h.outs_are; fits = λ full. full; may = inl (flushed new) };
+  ends = record { sent = h.sent; makes = record { going = refl; delivered = h.delivered }; goes = refl; outs = h.outs_are; may = inl (flushed new) };
   stored = omega arith;
   time = elapses old new;
 }

@@ -13,7 +13,7 @@ use Rattle.js_model.specs.declared.stream.Message.{Message}
 use Rattle.js_model.specs.declared.stream.Stream.{Stream}
 use Rattle.js_model.specs.declared.event.Publish.{Publish}
 use Rattle.js_model.specs.Lists.{Between}
-use Rattle.js_model.specs.Refusals.{Check, first_refusal, message_too_large, bad_header_number, id_too_long, wrong_stream, wrong_last, wrong_last_id, max_messages_exceeded, max_bytes_exceeded, window_full, numbers_used_up, no_free_block}
+use Rattle.js_model.specs.Refusals.{Check, first_refusal, message_too_large, bad_header_number, id_too_long, wrong_stream, wrong_last, wrong_last_id, max_messages_exceeded, max_bytes_exceeded, window_full, numbers_used_up, no_room}
 use Rattle.js_model.specs.Verdict.{verdict, first_of_all, known, early_checks, late_checks, last_on, last_seq_on}
 use Rattle.stream_view.specs.Order.{IsInOrder}
 use Rattle.place_engine.specs.Shown.{IsShownVerdict}
@@ -76,9 +76,9 @@ numbers_used_up_utf8 : IsUtf8 numbers_used_up.text
 unfolding is_utf8 chars encode
 numbers_used_up_utf8 = IsUtf8-from_is_utf8 numbers_used_up.text refl
 
-pub no_free_block_utf8 : IsUtf8 no_free_block.text
+pub no_room_utf8 : IsUtf8 no_room.text
 unfolding is_utf8 chars encode
-no_free_block_utf8 = IsUtf8-from_is_utf8 no_free_block.text refl
+no_room_utf8 = IsUtf8-from_is_utf8 no_room.text refl
 
 wrong_last_front : IsUtf8 (codes "wrong last sequence: ")
 unfolding is_utf8 chars encode
@@ -140,7 +140,7 @@ late_texts s p order = (
     wrong_last_utf8 (last_seq_on s p.subject) (subject_small s p.subject order),
     (
       wrong_last_id_utf8,
-      (max_messages_exceeded_utf8, (max_bytes_exceeded_utf8, (window_full_utf8, (numbers_used_up_utf8, (no_free_block_utf8, tt))))),
+      (max_messages_exceeded_utf8, (max_bytes_exceeded_utf8, (window_full_utf8, (numbers_used_up_utf8, (no_room_utf8, tt))))),
     ),
   ),
 )

@@ -1,4 +1,4 @@
--- What a stream or a place answers; where nothing is said of room, the store has a block for each message.
+-- What a stream or a place answers; where nothing is said of room, there is room for all that is asked.
 use Rattle.std.specs.Prelude.{◌≡◌, ℕ, Bool, true, false, List, [], ◌++◌, Option, Some, None, Result, Ok, Err}
 use Rattle.js_base.specs.Bytes.{Bytes}
 use Rattle.js_base.specs.declared.out.Out.{Out}
@@ -6,18 +6,15 @@ use Rattle.js_model.specs.declared.stream.Stream.{Stream}
 use Rattle.js_model.specs.declared.stream.State.{State}
 use Rattle.js_model.specs.declared.stream.State.TheVariants.{Vacant, Live}
 use Rattle.js_model.specs.declared.entry.Delivery.{Delivery}
-use Rattle.js_model.specs.declared.event.Publish.{Publish}
 use Rattle.js_model.specs.declared.event.What.{What}
 use Rattle.js_model.specs.declared.event.What.TheVariants.{Tick}
 use Rattle.js_model.specs.declared.reply.Reply.{Reply}
-use Rattle.js_model.specs.declared.reply.Reply.TheVariants.{Refused, Silent}
+use Rattle.js_model.specs.declared.reply.Reply.TheVariants.{Silent}
 use Rattle.js_model.specs.declared.reply.Answer.{Answer}
 use Rattle.js_model.specs.Advance.{advance_outs}
 use Rattle.js_model.specs.Deliver.{IsDelivered}
-use Rattle.js_model.specs.Events.{answered, published, stream_answer, vacant_answer, completed, settled, settled_state}
+use Rattle.js_model.specs.Events.{answered, stream_answer, vacant_answer, completed, settled, settled_state}
 use Rattle.js_model.specs.Ready.{some_ready}
-use Rattle.js_model.specs.Refusals.{no_stream}
-use Rattle.js_model.specs.Verdict.{verdict}
 use Rattle.place_engine.specs.declared.faults.Left.{Left}
 use Rattle.place_engine.specs.declared.faults.Left.TheVariants.{Nothing, Ticked, Unsaid}
 
@@ -41,21 +38,20 @@ ActsQuietly answer reply new = (outs : List Out) → Acts answer reply outs outs
 abbrev pub StreamAnswers : Stream → What → Reply → List Out → List Out → State → Type 0
 StreamAnswers s what reply outs_old outs_new new = Gives (completed [] (stream_answer s what true)) reply outs_old outs_new new
 
--- the place answers what is asked at a moment, if time has come to that moment there
+-- the place answers what is asked at a moment, if time has come to that moment there; `room` is whether there is room for it
+abbrev pub AnswersThenIn : Bool → State → What → ℕ → Reply → List Out → List Out → State → Type 0
+AnswersThenIn room (Vacant last) what now reply outs_old outs_new new = Gives (completed [] (vacant_answer last what now room)) reply outs_old outs_new new
+AnswersThenIn room (Live s) what now reply outs_old outs_new new = Gives (completed [] (stream_answer s what room)) reply outs_old outs_new new
+
+-- the same where there is
 abbrev pub AnswersThen : State → What → ℕ → Reply → List Out → List Out → State → Type 0
-AnswersThen (Vacant last) what now reply outs_old outs_new new = Gives (completed [] (vacant_answer last what now)) reply outs_old outs_new new
-AnswersThen (Live s) what now reply outs_old outs_new new = StreamAnswers s what reply outs_old outs_new new
+AnswersThen = AnswersThenIn true
 
--- what is replied to a publish whose message the store has no block for, if time has come to its moment there
-abbrev pub reply_without_room : State → Publish → Reply
-reply_without_room (Vacant last) publish = Refused no_stream
-reply_without_room (Live s) publish = (published s publish (verdict s publish false)).reply
-
--- the place answers what is asked, whatever incarnation was named; `room` is whether the store has a block for a message
+-- the place answers what is asked, whatever incarnation was named
 abbrev pub PlaceAnswersIn : Bool → State → What → ℕ → Reply → List Out → List Out → State → Type 0
 PlaceAnswersIn room old what now reply outs_old outs_new new = (incarnation : ℕ) → Gives (answered old (record { incarnation = incarnation; what = what }) now room) reply outs_old outs_new new
 
--- the same where it has one
+-- the same where there is
 abbrev pub PlaceAnswers : State → What → ℕ → Reply → List Out → List Out → State → Type 0
 PlaceAnswers = PlaceAnswersIn true
 

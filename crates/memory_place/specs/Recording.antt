@@ -37,12 +37,12 @@ TellsLeft Nothing old now effects = effects ≡ []
 TellsLeft Ticked old now effects = effects ≡ event_effects old Tick now true
 TellsLeft (Unsaid refused) old now effects = ⊥
 
--- those of an event; `room` is whether the store has a block for a message
+-- those of an event; `room` is whether there is room for it
 abbrev pub TellsEventIn : Bool → Result Reply Left → State → What → ℕ → List Effect → Type 0
 TellsEventIn room (Ok reply) old what now effects = effects ≡ event_effects old what now room
 TellsEventIn room (Err left) old what now effects = TellsLeft left old now effects
 
--- the same where it has one
+-- the same where there is
 abbrev pub TellsEvent : Result Reply Left → State → What → ℕ → List Effect → Type 0
 TellsEvent = TellsEventIn true
 
@@ -59,9 +59,13 @@ passing_effects (Vacant i) now = []
 passing_effects (Live s) now = time_effects s now
 
 -- once time has come to the moment
+abbrev pub asking_effects_in : Bool → State → What → ℕ → List Effect
+asking_effects_in room (Vacant i) what now = vacant_effects i what now room
+asking_effects_in room (Live s) what now = live_effects s what room
+
+-- the same where there is room
 abbrev pub asking_effects : State → What → ℕ → List Effect
-asking_effects (Vacant i) what now = vacant_effects i what now
-asking_effects (Live s) what now = live_effects s what true
+asking_effects = asking_effects_in true
 
 -- those of what was asked, once the retention has let the messages go that it does not keep
 abbrev pub own_then : OwnRecords → Stream → List Effect

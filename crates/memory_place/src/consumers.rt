@@ -13,6 +13,7 @@ ghost use Rattle.js_model.specs.Trim.{trim};
 ghost use Rattle.effects.specs.Effects.{live_effects, settle_effects};
 ghost use Rattle.place_engine.specs.Shown.{IsShown};
 ghost use Rattle.memory_place.specs.Answers.{Acts, ActsQuietly};
+ghost use Rattle.memory_place.specs.Needing.{makes_consumer};
 ghost use Rattle.memory_place.specs.Recording.{own_then, TellsFault};
 ghost use Rattle.place_records.specs.Records.{IsFreshOwn};
 ghost use Rattle.stream_state.specs.Removing.{HasRoom, HasRoomForOne};
@@ -43,7 +44,7 @@ impl LiveStream {
         requires valid { IsTrue (is_consumer_config config.now) }
         requires fresh { IsFreshOwn own.old }
         requires room { HasRoomForOne self.old own.old.removed }
-        ensures acts { IfOk result (λ reply. ActsQuietly (consumer_asked self.old name.now config.now update (by_name self.old.consumers name.now)) reply self.new) }
+        ensures acts { IfOk result (λ reply. ActsQuietly (consumer_asked self.old name.now config.now update true (by_name self.old.consumers name.now)) reply self.new) }
         ensures shown { IfOk result IsShown }
         ensures recorded { (to : Option Bytes) → OnOk result (own_then own.new self.new ≡ live_effects self.old (What.MakeConsumer to name.now config.now update) true) }
         ensures room { HasRoom self.new own.new.removed }
@@ -65,6 +66,26 @@ impl LiveStream {
     {
         let kept = self.state.consumer_config(name)?;
         Some(same_consumer_config(config, kept))
+    }
+
+    /// Whether such an asking makes a consumer: there is none of the name, and no rule forbids it.
+    pub(crate) fn makes_consumer(
+        &self,
+        name: &Blob,
+        config: &ConsumerConfig,
+        update: bool,
+    ) -> Result<bool, NoMemory>
+        requires valid { IsTrue (is_consumer_config config.now) }
+        ensures value { IfOk result (λ makes. makes ≡ makes_consumer self.now name.now config.now update (by_name self.now.consumers name.now)) }
+    {
+        if update || self.state.consumer_config(name).is_some() {
+            return Ok(false);
+        }
+        match self.state.may_make(name, config) {
+            Ok(()) => Ok(true),
+            Err(MakeFault::Refused(_)) => Ok(false),
+            Err(MakeFault::NoMemory) => Err(NoMemory),
+        }
     }
 
     /// Makes a consumer of a name that none has.

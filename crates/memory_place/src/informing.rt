@@ -55,7 +55,7 @@ impl LiveStream {
         requires valid { IsTrue (is_stream_config config.now) }
         requires fresh { IsFreshOwn own.old }
         requires room { HasRoomForOne self.old own.old.removed }
-        ensures acts { IfOk result (λ reply. ActsQuietly (changed self.old config.now) reply self.new) }
+        ensures acts { IfOk result (λ reply. ActsQuietly (changed self.old config.now true) reply self.new) }
         ensures shown { IfOk result IsShown }
         ensures recorded { (to : Option Bytes) → OnOk result (own_then own.new self.new ≡ live_effects self.old (What.Change to config.now) true) }
         ensures room { HasRoom self.new own.new.removed }

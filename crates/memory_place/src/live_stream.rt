@@ -11,13 +11,15 @@ ghost use Rattle.js_model.specs.Events.{farewells, settled, stream_answer};
 ghost use Rattle.js_model.specs.Proper.{is_proper_what};
 ghost use Rattle.js_model.specs.Retention.{kept};
 ghost use Rattle.js_model.specs.Ready.{is_ready};
+ghost use Rattle.js_model.specs.Verdict.{verdict};
 ghost use Rattle.effects.specs.Effects.{live_effects, settle_effects};
 ghost use Rattle.effects.specs.TimeEffects.{time_effects};
 ghost use Rattle.followed_stream.specs.Delivering.{AreCurrent};
 ghost use Rattle.place_engine.specs.Places.{IsTold};
 ghost use Rattle.place_engine.specs.Pushes.{push_of, pushes_in};
 ghost use Rattle.place_engine.specs.Shown.{IsShown};
-ghost use Rattle.memory_place.specs.Answers.{reply_without_room, Acts, MayDeliver, StreamAnswers};
+ghost use Rattle.memory_place.specs.Needing.{replaces_config, stream_needs_room, takes};
+ghost use Rattle.memory_place.specs.Answers.{Acts, MayDeliver, StreamAnswers};
 ghost use Rattle.memory_place.specs.Recording.{own_then, TellsSent};
 ghost use Rattle.place_records.specs.Records.{effects_in, own_in, time_in, IsFresh, IsFreshOwn, IsFreshTime};
 ghost use Rattle.stream_state.specs.Removing.{HasRoom, HasRoomForOne};
@@ -25,8 +27,8 @@ ghost use Rattle.timers.specs.Bounds.{IsTimerBound};
 ghost use Rattle.timers.specs.Timers.{stream_timers};
 
 use crate::pushes::push_consumer;
+use crate::sameness::{same_retention, same_stream_config};
 use js_base::{Blob, Moment, NoMemory, Outs};
-use js_model::refusals::no_free_block;
 use js_model::{
     Delivery, Listening, Publish, Reply, StreamConfig, Verdict, What, copy_stream_config,
 };
@@ -260,17 +262,55 @@ impl LiveStream {
         }
     }
 
-    /// What it replies to a publish at its moment, where its store has no block for the message.
-    pub fn reply_without_room(&self, publish: &Publish) -> Result<Reply, NoMemory>
+    /// Whether what is asked needs room at its moment: a publish that is taken, another configuration, or a consumer that is made.
+    pub fn needs_room(&self, what: &What) -> Result<bool, NoMemory>
+        requires told { IsTold what.now }
+        requires proper { IsTrue (is_proper_what what.now) }
+        ensures value { IfOk result (λ needs. needs ≡ stream_needs_room self.now what.now) }
+    {
+        match what {
+            What::Publish(publish) => self.takes(publish),
+            What::Change { reply: _, config } => Ok(self.replaces_config(config)),
+            What::MakeConsumer {
+                reply: _,
+                name,
+                config,
+                update,
+            } => self.makes_consumer(name, config, *update),
+            What::Make { .. }
+            | What::Drop { .. }
+            | What::Purge { .. }
+            | What::Delete { .. }
+            | What::DropConsumer { .. }
+            | What::Ack { .. }
+            | What::Pull { .. }
+            | What::Tick
+            | What::StreamInfo { .. }
+            | What::MessageGet { .. }
+            | What::ConsumerInfo { .. }
+            | What::ConsumerNames { .. }
+            | What::ConsumerList { .. } => Ok(false),
+        }
+    }
+
+    /// Whether it takes a publish, if there is room for it.
+    fn takes(&self, publish: &Publish) -> Result<bool, NoMemory>
         requires told { IfSome publish.now.wants.bad IsUtf8 }
-        ensures value { IfOk result (λ reply. reply ≡ reply_without_room (Live self.now) publish.now) }
-        ensures shown { IfOk result IsShown }
+        ensures value { IfOk result (λ is. is ≡ takes (verdict self.now publish.now true)) }
     {
         match self.verdict(publish)? {
-            Verdict::Take => Ok(Reply::Refused(no_free_block(self.alloc)?)),
-            Verdict::Duplicate(seq) => Ok(Reply::Duplicate(seq)),
-            Verdict::Refused(refusal) => Ok(Reply::Refused(refusal)),
+            Verdict::Take => Ok(true),
+            Verdict::Duplicate(_) => Ok(false),
+            Verdict::Refused(_) => Ok(false),
         }
+    }
+
+    /// Whether a configuration is another one that it takes.
+    fn replaces_config(&self, config: &StreamConfig) -> bool
+        ensures value { result ≡ replaces_config self.now config.now }
+    {
+        let current = self.state.config();
+        same_retention(config.retention, current.retention) && !same_stream_config(config, current)
     }
 
     /// Adds what is sent to all waiting pulls as the stream goes. An `Err` adds nothing.

@@ -3,19 +3,20 @@
 ghost use Rattle.std.specs.Prelude.{◌≡◌, IfOk, IfErr, IsOk, IsTrue, refl};
 ghost use Rattle.std.proofs.Common.{◌∙◌, arith};
 ghost use Rattle.js_base.specs.Causes.{Rose};
-ghost use Rattle.js_model.specs.Proper.{is_proper};
+ghost use Rattle.js_model.specs.Proper.{is_proper, is_proper_what};
 ghost use Rattle.place_engine.specs.declared.faults.OpenFault.TheVariants as opening;
 ghost use Rattle.place_engine.specs.Delivering.{Delivers};
 ghost use Rattle.place_engine.specs.Flushing.{Flushes};
-ghost use Rattle.place_engine.specs.InMemory.{HasCause, IsWantOfMemory, bases_on_nothing, counts_none, holds_nothing, leaves_nothing, opens_vacant, reads_nothing, refuses_in_memory, seen_of};
-ghost use Rattle.place_engine.specs.Opening.{IsOpened, IsUnopened};
+ghost use Rattle.place_engine.specs.InMemory.{HasCause, IsWantOfMemory, bases_on_nothing, counts_none, holds_nothing, leaves_nothing, never_short, opens_vacant, reads_nothing, refuses_in_memory, seen_of};
+ghost use Rattle.place_engine.specs.Opening.{HasNoRoom, IsOpened, IsUnopened};
 ghost use Rattle.place_engine.specs.Places.{IsTold};
+ghost use Rattle.place_engine.specs.Preparing.{Prepares};
 ghost use Rattle.place_engine.specs.Shown.{IsShown};
 ghost use Rattle.place_engine.specs.Stepping.{Steps};
 
 use crate::slot::Slot;
 use js_base::{Blob, Moment, Outs};
-use js_model::{Delivery, Event, Listening, Reply};
+use js_model::{Delivery, Event, Listening, Reply, What};
 use place_engine::{OpenFault, Place, PlaceFault, Push};
 use place_records::Made;
 use std::alloc::Global;
@@ -59,6 +60,8 @@ impl<V> Place for MemoryPlace<V> {
 
     ghost faults = { counts_none };
 
+    ghost room_causes = { never_short };
+
     ghost opens = { opens_vacant };
 
     ghost refuses = { refuses_in_memory };
@@ -69,6 +72,7 @@ impl<V> Place for MemoryPlace<V> {
         ensures vol { IfOk result (λ place. place.vol ≡ volume) }
         ensures refused { IfErr result (λ stop. stop.0 ≡ opening.NoMemory) }
         ensures cause { IfErr result (λ stop. stop.0 ≡ OpenFault.Fault → Rose 0 0) }
+        ensures no_room { IfErr result (λ stop. stop.0 ≡ OpenFault.NoRoom → HasNoRoom never_short opens_vacant volume stop.1) }
         ensures unopened { IfErr result (λ stop. IsUnopened holds_nothing reads_nothing leaves_nothing counts_none opens_vacant volume stop.1) }
         ensures given_back { IfErr result (λ stop. stop.1 ≡ volume) }
     {
@@ -110,6 +114,18 @@ impl<V> Place for MemoryPlace<V> {
 
     fn next_timer(&self) -> Option<Moment> {
         self.slot.next_timer()
+    }
+
+    /// There always is room: it does nothing, and always succeeds.
+    fn prepare(&mut self, what: &What) -> Result<(), PlaceFault>
+        requires proper { IsTrue (is_proper_what what.now) }
+        ensures prepares { Prepares holds_nothing (λ state what. ⊥) result what.now (seen_of self.old.state) (seen_of self.new.state) }
+        ensures vol { self.new.vol ≡ self.old.vol }
+        ensures same { self.new ≡ self.old }
+        ensures ok { IsOk result }
+    {
+        let _ = what;
+        Ok(())
     }
 
     /// An `Err` is `Gone` or `NoMemory`, and the latter leaves `Left::Nothing`, or `Left::Ticked` if there is a stream and no tick was asked for.
@@ -182,9 +198,9 @@ impl<V> Place for MemoryPlace<V> {
 
     ghost earlier = { λ v t u image le left. absurd left };
 
-    ghost stands = { λ place. (refl, refl) };
+    ghost stands = { λ place. (refl, refl, refl) };
 
-    ghost keeps_later = { λ a b kept. (omega arith, omega arith) };
+    ghost keeps_later = { λ a b kept. (omega arith, omega arith, omega arith) };
 
     ghost keeps_none = { λ vol. refl };
 

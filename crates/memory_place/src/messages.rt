@@ -25,7 +25,7 @@ use stream_state::StreamState;
 use stream_view::View;
 
 impl LiveStream {
-    /// What it says to a publish at its moment, if its store has a block for each message.
+    /// What it says to a publish at its moment, if there is room for it.
     pub fn verdict(&self, publish: &Publish) -> Result<Verdict, NoMemory>
         requires told { IfSome publish.now.wants.bad IsUtf8 }
         ensures value { IfOk result (λ said. said ≡ verdict self.now publish.now true) }
@@ -148,7 +148,7 @@ impl LiveStream {
     }
 }
 
-/// What a stream answers a publish, if its store has a block for each message.
+/// What a stream answers a publish, if there is room for it.
 fn verdict(state: &StreamState, publish: &Publish) -> Result<Verdict, NoMemory>
     requires told { IfSome publish.now.wants.bad IsUtf8 }
     ensures value { IfOk result (λ said. said ≡ verdict state.now publish.now true) }

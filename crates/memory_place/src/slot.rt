@@ -1,35 +1,40 @@
 //! What a place holds, in memory.
 
-ghost use Rattle.std.specs.Prelude.{◌≡◌, ◌≢◌, ◌≤◌, ◌<◌, ◌++◌, ◌^◌, ℕ, false, [], List, length, option_map, slice_get, IfErr, IfOk, IfSome, OnErr, OnOk, Option, IsTrue, IsUtf8};
+ghost use Rattle.std.specs.Prelude.{◌≡◌, ◌≢◌, ◌≤◌, ◌<◌, ◌++◌, ◌^◌, ℕ, false, [], List, is_some, length, option_map, slice_get, sum_by, IfErr, IfOk, IfSome, OnErr, OnOk, Option, IsTrue, IsUtf8};
 ghost use Rattle.std.specs.Option.{option_copied};
 ghost use Rattle.js_base.specs.Bytes.{Bytes};
 ghost use Rattle.js_base.specs.declared.out.Out.{Out};
+ghost use Rattle.js_model.specs.declared.stream.Id.{Id};
 ghost use Rattle.js_model.specs.declared.stream.State.TheVariants.{Vacant};
 ghost use Rattle.js_model.specs.Configs.{is_stream_config};
 ghost use Rattle.js_model.specs.Events.{kept_incarnation, settled_state};
 ghost use Rattle.js_model.specs.Proper.{is_proper_what};
 ghost use Rattle.js_model.specs.Ready.{some_ready};
 ghost use Rattle.js_model.specs.StateMoments.{state_at};
+ghost use Rattle.js_model.specs.Streams.{by_name};
 ghost use Rattle.effects.specs.Effects.{settle_effects};
 ghost use Rattle.place_engine.specs.InMemory.{left_of, MayLeave};
-ghost use Rattle.place_engine.specs.Places.{IsTold, IsVacant, ids_in, messages_in, name_in, subjects_in};
+ghost use Rattle.place_engine.specs.Places.{IsTold, IsVacant, consumers_in, ids_in, is_config, messages_in, name_in, subjects_in};
 ghost use Rattle.place_engine.specs.Pushes.{push_of, pushes_in};
 ghost use Rattle.place_engine.specs.Shown.{IsShown};
-ghost use Rattle.memory_place.specs.Answers.{outs_by, reply_without_room, AnswersThen, LeftBy, MayDeliver, PlaceAnswers, PlaceAnswersIn};
-ghost use Rattle.memory_place.specs.Recording.{asking_effects, passing_effects, HasMadeRoom, HasOwnRoom, HasTimeRoom, TellsEvent, TellsEventIn, TellsSent};
+ghost use Rattle.memory_place.specs.Answers.{outs_by, AnswersThen, AnswersThenIn, LeftBy, MayDeliver, PlaceAnswers, PlaceAnswersIn};
+ghost use Rattle.memory_place.specs.Needing.{needs_room, vacant_needs_room};
+ghost use Rattle.memory_place.specs.Recording.{asking_effects, asking_effects_in, passing_effects, HasMadeRoom, HasOwnRoom, HasTimeRoom, TellsEvent, TellsEventIn, TellsSent};
 ghost use Rattle.place_records.specs.Records.{effects_in, own_in, time_in, IsFresh, IsFreshOwn, IsFreshTime};
 ghost use Rattle.timers.specs.Bounds.{IsTimerBound};
 ghost use Rattle.timers.specs.Timers.{timers};
 
 use crate::live_stream::LiveStream;
+use crate::sameness::same_stream_config;
 use effects::Effect;
 use js_base::{Blob, Moment, NoMemory, Outs};
-use js_model::refusals::{no_stream, numbers_used_up};
-use js_model::{Delivery, Listening, Publish, Reply, StreamConfig, What, copy_stream_config};
+use js_model::refusals::{no_room, no_stream, numbers_used_up};
+use js_model::{Delivery, Listening, Reply, StreamConfig, What, copy_stream_config};
 use place_engine::{Left, Push};
 use place_records::{Made, OwnRecords, TimeRecords};
 use std::alloc::Global;
 use std::marker::Model;
+use stream_view::View;
 
 /// Incarnations are below it.
 const NUMBERS_END: u64 = 1 << 62;
@@ -128,6 +133,47 @@ impl Slot {
         }
     }
 
+    /// How many bytes these ids have together.
+    pub fn id_bytes(&self) -> u64
+        ensures value { result ≡ sum_by (λ (i : Id). length i.id) (ids_in self.now) }
+    {
+        match &self.held {
+            Held::Nothing(_) => 0,
+            Held::Stream(stream) => stream.state.id_bytes(),
+        }
+    }
+
+    /// How many consumers it has, none if there is no stream.
+    pub fn consumer_count(&self) -> u64
+        ensures value { result ≡ length (consumers_in self.now) }
+        ensures few { result ≤ 256 }
+    {
+        match &self.held {
+            Held::Nothing(_) => 0,
+            Held::Stream(stream) => stream.state.consumer_count(),
+        }
+    }
+
+    /// Whether it has a consumer of the name.
+    pub fn has_consumer(&self, name: &Blob) -> bool
+        ensures value { result ≡ is_some (by_name (consumers_in self.now) name.now) }
+    {
+        match &self.held {
+            Held::Nothing(_) => false,
+            Held::Stream(stream) => stream.state.consumer_config(name).is_some(),
+        }
+    }
+
+    /// Whether there is a stream of this configuration.
+    pub fn has_config(&self, config: &StreamConfig) -> bool
+        ensures value { result ≡ is_config self.now config.now }
+    {
+        match &self.held {
+            Held::Nothing(_) => false,
+            Held::Stream(stream) => same_stream_config(config, stream.state.config()),
+        }
+    }
+
     /// The push consumer at a place in the order of their names.
     pub fn push(&self, at: usize) -> Option<Push<'_>>
         ensures value { result ≡ option_map push_of (slice_get (pushes_in self.now) at) }
@@ -189,20 +235,21 @@ impl Slot {
         }
     }
 
-    /// Answers a publish at a moment as `answer` does, where the store has no block for its message: nothing is stored. If the stream would take it, it
-    /// is refused for want of a block; each other refusal and a duplicate are answered as ever. An `Err` says what is left.
+    /// The same, where there is no room for what is asked: what needs room is refused and changes nothing more, and all else is answered as ever. A publish that
+    /// is taken needs room, another configuration, and a stream or a consumer that is made.
     pub fn answer_without_room(
         &mut self,
-        publish: &Publish,
+        what: &What,
         now: Moment,
         outs: &mut Outs,
         made: &mut Made,
     ) -> Result<Reply, Left>
-        requires told { IfSome publish.now.wants.bad IsUtf8 }
-        ensures answers { IfOk result (λ reply. PlaceAnswersIn false self.old (What.Publish publish.now) now reply outs.old outs.new self.new) }
+        requires told { IsTold what.now }
+        requires proper { IsTrue (is_proper_what what.now) }
+        ensures answers { IfOk result (λ reply. PlaceAnswersIn false self.old what.now now reply outs.old outs.new self.new) }
         ensures shown { IfOk result IsShown }
         ensures err { IfErr result (λ left. LeftBy left self.old now outs.old outs.new self.new) }
-        ensures recorded { TellsEventIn false result self.old (What.Publish publish.now) now (effects_in made.new) }
+        ensures recorded { TellsEventIn false result self.old what.now now (effects_in made.new) }
     {
         let Ok(()) = self.start(made) else {
             return Err(Left::Nothing);
@@ -211,9 +258,7 @@ impl Slot {
             return Err(Left::Nothing);
         };
         let left = self.left();
-        let said = self.reply_without_room(publish);
-        self.settle(&mut made.own);
-        match said {
+        match self.answer_or_refuse(what, now, outs, &mut made.own) {
             Ok(reply) => Ok(reply),
             Err(NoMemory) => Err(left),
         }
@@ -340,15 +385,45 @@ impl Slot {
         }
     }
 
-    /// What is replied to a publish at a moment to which time has come, where the store has no block for its message.
-    fn reply_without_room(&self, publish: &Publish) -> Result<Reply, NoMemory>
-        requires told { IfSome publish.now.wants.bad IsUtf8 }
-        ensures value { IfOk result (λ reply. reply ≡ reply_without_room self.now publish.now) }
+    /// The same as `answer_then`, but that what needs room is refused.
+    fn answer_or_refuse(
+        &mut self,
+        what: &What,
+        now: Moment,
+        outs: &mut Outs,
+        own: &mut OwnRecords,
+    ) -> Result<Reply, NoMemory>
+        requires told { IsTold what.now }
+        requires proper { IsTrue (is_proper_what what.now) }
+        requires fresh { IsFreshOwn own.old }
+        requires room { HasOwnRoom self.old own.old }
+        ensures answers { IfOk result (λ reply. AnswersThenIn false self.old what.now now reply outs.old outs.new self.new) }
         ensures shown { IfOk result IsShown }
+        ensures recorded { OnOk result (own_in own.new ≡ asking_effects_in false self.old what.now now) }
+        ensures err { OnErr result (self.new ≡ settled_state self.old) }
+        ensures err_outs { OnErr result (outs.new ≡ outs.old) }
+        ensures err_recorded { OnErr result (own_in own.new ≡ settle_effects [] self.old) }
+    {
+        let Ok(needs) = self.needs_room(what) else {
+            self.settle(own);
+            return Err(NoMemory);
+        };
+        if !needs {
+            return self.answer_then(what, now, outs, own);
+        }
+        self.settle(own);
+        Ok(Reply::Refused(no_room(self.alloc)?))
+    }
+
+    /// Whether what is asked needs room, at a moment to which time has come.
+    fn needs_room(&self, what: &What) -> Result<bool, NoMemory>
+        requires told { IsTold what.now }
+        requires proper { IsTrue (is_proper_what what.now) }
+        ensures value { IfOk result (λ needs. needs ≡ needs_room self.now what.now) }
     {
         match &self.held {
-            Held::Nothing(_) => Ok(Reply::Refused(no_stream(self.alloc)?)),
-            Held::Stream(stream) => stream.reply_without_room(publish),
+            Held::Nothing(last) => Ok(vacant_needs_room(*last, what)),
+            Held::Stream(stream) => stream.needs_room(what),
         }
     }
 
@@ -444,5 +519,16 @@ impl Slot {
             config,
         }));
         Ok(Reply::Info(info))
+    }
+}
+
+/// Whether what is asked of a place without a stream needs room there, after so many streams.
+fn vacant_needs_room(last: u64, what: &What) -> bool
+    requires last { last < 2 ^ 62 }
+    ensures value { result ≡ vacant_needs_room last what.now }
+{
+    match what {
+        What::Make { .. } => last + 1 != NUMBERS_END,
+        _ => false,
     }
 }

@@ -45,7 +45,7 @@ use Rattle.js_model.specs.Verdict.{verdict, known, early_checks, late_checks, fi
 use Rattle.js_model.specs.Acknowledge.{acknowledged, ends, moved}
 use Rattle.js_model.specs.Pulls.{pulled, pulled_unless, pull_refusal}
 use Rattle.js_model.specs.Consumers.{empty_stream, new_consumer, with_new, is_before, making_checks}
-use Rattle.js_model.specs.Events.{answered, stream_answer, vacant_answer, vacantly, stream_told, with_message, with_id, after_ack, pulled_next, next_ask, settled_state, IsEvent}
+use Rattle.js_model.specs.Events.{answered, stream_answer, vacant_answer, vacantly, stream_made, stream_told, with_message, with_id, after_ack, pulled_next, next_ask, settled_state, IsEvent}
 use Rattle.js_model.specs.Deliver.{Delivers, candidates, IsDelivery, sent_to, with_pending, count_of}
 use Rattle.js_model.specs.Runs.{messages_of, RunFrom, IsStep, IsDeliverStep, new_messages}
 use Rattle.model_laws.specs.Bounds.{IsNumber, IsBoundedMessage, IsBoundedId, IsBoundedEntry, IsBoundedConsumer, IsBounded}
@@ -384,15 +384,19 @@ held_cond true a c h k = h
 held_cond false a c h k = k
 
 -- what an event leaves, if there was no stream
-held_vacant : (i : ℕ) (what : What) (now : ℕ) → now < 2 ^ 62 → IfLive ⊤ IsHeldStream (vacant_answer i what now).state
-held_vacant i (Make reply config) now l = held_cond (i + 1 == 2 ^ 62) _ _ tt (held_empty (i + 1) now config l)
-held_vacant i _ now l = tt
+held_vacant : (i : ℕ) (what : What) (now : ℕ) (room : Bool) → now < 2 ^ 62 → IfLive ⊤ IsHeldStream (vacant_answer i what now room).state
+held_vacant i (Make reply config) now room l = held_cond (i + 1 == 2 ^ 62) _ _ tt (made room)
+  where
+    made : (room : Bool) → IfLive ⊤ IsHeldStream (stream_made i config now room).state
+    made true = held_empty (i + 1) now config l
+    made false = tt
+held_vacant i _ now room l = tt
 
 held_event : (count : ℕ) (old new : State) (e : Event) (now : ℕ) (reply : Reply) (outs : List Out) → IsStep count old e now reply outs new → IfLive ⊤ IsHeldStream old → IfLive ⊤ IsHeldStream new
 unfolding answered
 held_event count (Vacant i) new e now reply outs x h =
     subst (IfLive ⊤ IsHeldStream) (ap (λ (a : Answer). a.state) x.event.answers)
-    (change_settled IsProperWhat ⊤ IsHeldStream held_change (vacant_answer i e.what now).state (held_vacant i e.what now x.moment))
+    (change_settled IsProperWhat ⊤ IsHeldStream held_change (vacant_answer i e.what now x.event.room).state (held_vacant i e.what now x.event.room x.moment))
 held_event count (Live s) new e now reply outs x h =
     change_time IsProperWhat ⊤ IsHeldStream held_change s new e now reply outs x.event (and_parts _ _ x.proper).1 (held_at_time s now x.moment h)
 
@@ -478,17 +482,18 @@ numbered_drop s new e now reply outs asked x q h =
     gone : (i : ℕ) → IsNumber i → IsNumber (number_of (Vacant i))
     gone i k = k
 
-numbered_vacant : (i : ℕ) (what : What) (now : ℕ) → IsNumber i → IsNumber (number_of (vacant_answer i what now).state)
-numbered_vacant i (Make reply config) now h = go (i + 1 == 2 ^ 62) refl
+numbered_vacant : (i : ℕ) (what : What) (now : ℕ) (room : Bool) → IsNumber i → IsNumber (number_of (vacant_answer i what now room).state)
+numbered_vacant i (Make reply config) now room h = go (i + 1 == 2 ^ 62) room refl
   where
-    go : (b : Bool) → (i + 1 == 2 ^ 62) ≡ b → IsNumber (number_of (cond b (vacantly (Refused numbers_used_up) i) (stream_told (empty_stream (i + 1) config now))).state)
-    go true q = h
-    go false q = let r : i + 1 ≢ 2 ^ 62 = eqb-false (i + 1) (2 ^ 62) q in let l : i < 2 ^ 62 = h in omega arith
-numbered_vacant i _ now h = h
+    go : (b room : Bool) → (i + 1 == 2 ^ 62) ≡ b → IsNumber (number_of (cond b (vacantly (Refused numbers_used_up) i) (stream_made i config now room)).state)
+    go true room q = h
+    go false false q = h
+    go false true q = let r : i + 1 ≢ 2 ^ 62 = eqb-false (i + 1) (2 ^ 62) q in let l : i < 2 ^ 62 = h in omega arith
+numbered_vacant i _ now room h = h
 
 numbered_event : (old new : State) (e : Event) (now : ℕ) (reply : Reply) (outs : List Out) → IsEvent old e now reply outs new → IsNumber (number_of old) → IsNumber (number_of new)
 unfolding answered
-numbered_event (Vacant i) new e now reply outs x h = subst (λ (z : State). IsNumber (number_of z)) (ap (λ (a : Answer). a.state) x.answers) (numbered_settled (vacant_answer i e.what now).state (numbered_vacant i e.what now h))
+numbered_event (Vacant i) new e now reply outs x h = subst (λ (z : State). IsNumber (number_of z)) (ap (λ (a : Answer). a.state) x.answers) (numbered_settled (vacant_answer i e.what now x.room).state (numbered_vacant i e.what now x.room h))
 numbered_event (Live s) new e now reply outs x h = go (drop_or_not e.what)
   where
     go : ((asked : Option Bytes) × (e.what ≡ DropStream asked)) ⊎ (not_drop e.what ≡ true) → IsNumber (number_of new)

@@ -211,7 +211,7 @@ published_remembers a p room n (RefusedBy r) e some q = absurd (other q)
 
 first_remembers : (n : ℕ) (old mid : State) (e : Event) (now : ℕ) (outs : List Out) → IsEvent old e now (Published n) outs mid → is_empty (id_of e.what) ≡ false → InWindowOf (id_of e.what) n mid
 unfolding answered
-first_remembers n (Vacant i) mid e now outs x some = absurd (other (subst (λ (w : What). (vacant_answer i w now).reply ≡ Published n) found.1 (ap (λ (a : Answer). a.reply) x.answers)))
+first_remembers n (Vacant i) mid e now outs x some = absurd (other (subst (λ (w : What). (vacant_answer i w now x.room).reply ≡ Published n) found.1 (ap (λ (a : Answer). a.reply) x.answers)))
   where
     found : (p : Publish) × (e.what ≡ PublishIt p)
     found = publish_of e.what some

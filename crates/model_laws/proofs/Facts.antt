@@ -34,7 +34,7 @@ use Rattle.js_model.specs.Verdict.{verdict}
 use Rattle.js_model.specs.Acknowledge.{is_no_delivery}
 use Rattle.js_model.specs.Pulls.{pulled}
 use Rattle.js_model.specs.Consumers.{empty_stream, new_consumer, with_new, making_checks}
-use Rattle.js_model.specs.Events.{stream_answer, vacant_answer, answered, settled, settled_state, published, with_message, deleted, message_at, message_told, message_by, told_of, consumer_made, consumer_asked, consumer_dropped, pull_answer, ack_answer, ack_done, after_ack, quietly, IsEvent}
+use Rattle.js_model.specs.Events.{stream_answer, stream_made, vacant_answer, with_config, answered, settled, settled_state, published, with_message, deleted, message_at, message_told, message_by, told_of, consumer_made, or_no_room, consumer_asked, consumer_dropped, pull_answer, ack_answer, ack_done, after_ack, quietly, IsEvent}
 use Rattle.js_model.specs.Deliver.{IsDelivered}
 use Rattle.js_model.proofs.Parts.{filter_part, drop_part, newest_at_part, fitting_at_part}
 
@@ -102,15 +102,22 @@ module _ (allowed : What → Type 0) (V : Type 0) (P : Stream → Type 0) (k : I
   change_told s None h = h
   change_told s (Some c) h = h
 
-  change_made : (s : Stream) (reply : Option Bytes) (name : Bytes) (config : ConsumerConfig) (e : Option ApiError) → first_refusal (making_checks s name config) ≡ e → allowed (MakeConsumer reply name config false) → by_name s.consumers name ≡ None → P s → IfLive V P (consumer_made s name config e).state
-  change_made s reply name config None q g absent h = change_told (record s { consumers = with_new s.consumers (new_consumer s name config) }) _ (k.made s reply name config g absent q h)
-  change_made s reply name config (Some e) q g absent h = h
+  change_config : (s : Stream) (reply : Option Bytes) (config : StreamConfig) (room : Bool) → allowed (Change reply config) → P s → IfLive V P (with_config s config room).state
+  change_config s reply config true g h = k.configured s reply config g h
+  change_config s reply config false g h = change_cond (same_stream_config config s.config) _ _ h h
 
-  change_asked : (s : Stream) (reply : Option Bytes) (name : Bytes) (config : ConsumerConfig) (update : Bool) (c : Option Consumer) → by_name s.consumers name ≡ c → allowed (MakeConsumer reply name config update) → P s → IfLive V P (consumer_asked s name config update c).state
-  change_asked s reply name config true None e g h = h
-  change_asked s reply name config false None e g h = change_made s reply name config (first_refusal (making_checks s name config)) refl g e h
-  change_asked s reply name config true (Some c) e g h = change_cond (same_consumer_config config c.config) _ _ (change_told s _ h) h
-  change_asked s reply name config false (Some c) e g h = change_cond (same_consumer_config config c.config) _ _ (change_told s _ h) h
+  change_made : (s : Stream) (reply : Option Bytes) (name : Bytes) (config : ConsumerConfig) (room : Bool) (e : Option ApiError) → first_refusal (making_checks s name config) ≡ e → allowed (MakeConsumer reply name config false) → by_name s.consumers name ≡ None → P s
+      → IfLive V P (consumer_made s name config (or_no_room room e)).state
+  change_made s reply name config true None q g absent h = change_told (record s { consumers = with_new s.consumers (new_consumer s name config) }) _ (k.made s reply name config g absent q h)
+  change_made s reply name config true (Some e) q g absent h = h
+  change_made s reply name config false None q g absent h = h
+  change_made s reply name config false (Some e) q g absent h = h
+
+  change_asked : (s : Stream) (reply : Option Bytes) (name : Bytes) (config : ConsumerConfig) (update room : Bool) (c : Option Consumer) → by_name s.consumers name ≡ c → allowed (MakeConsumer reply name config update) → P s → IfLive V P (consumer_asked s name config update room c).state
+  change_asked s reply name config true room None e g h = h
+  change_asked s reply name config false room None e g h = change_made s reply name config room (first_refusal (making_checks s name config)) refl g e h
+  change_asked s reply name config true room (Some c) e g h = change_cond (same_consumer_config config c.config) _ _ (change_told s _ h) h
+  change_asked s reply name config false room (Some c) e g h = change_cond (same_consumer_config config c.config) _ _ (change_told s _ h) h
 
   change_dropped : (s : Stream) (reply : Option Bytes) (name : Bytes) (c : Option Consumer) → by_name s.consumers name ≡ c → allowed (DropConsumer reply name) → P s → IfLive V P (consumer_dropped s c).state
   change_dropped s reply name None e g h = h
@@ -130,12 +137,12 @@ module _ (allowed : What → Type 0) (V : Type 0) (P : Stream → Type 0) (k : I
 
   pub change_answer : (s : Stream) (what : What) (room : Bool) → allowed what → P s → IfLive V P (stream_answer s what room).state
   change_answer s (Make reply config) room g h = change_cond (same_stream_config config s.config) _ _ h h
-  change_answer s (Change reply config) room g h = change_cond (same_retention config.retention s.config.retention) _ _ (k.configured s reply config g h) h
+  change_answer s (Change reply config) room g h = change_cond (same_retention config.retention s.config.retention) _ _ (change_config s reply config room g h) h
   change_answer s (DropStream reply) room g h = k.gone s reply g h
   change_answer s (PublishIt p) room g h = change_published s p room (verdict s p room) refl g h
   change_answer s (Purge reply pattern below keep) room g h = k.only s _ (filter_part _ s.messages) h
   change_answer s (Delete reply n) room g h = change_deleted s (message_at s n) h
-  change_answer s (MakeConsumer reply name config update) room g h = change_asked s reply name config update (by_name s.consumers name) refl g h
+  change_answer s (MakeConsumer reply name config update) room g h = change_asked s reply name config update room (by_name s.consumers name) refl g h
   change_answer s (DropConsumer reply name) room g h = change_dropped s reply name (by_name s.consumers name) refl g h
   change_answer s (AckIt reply ack) room g h = change_acked s reply ack (by_name s.consumers ack.consumer) refl g h
   change_answer s (PullIt reply name ask) room g h = change_pulled s reply name ask (by_name s.consumers name) refl g h
@@ -169,13 +176,17 @@ module _ (allowed : What → Type 0) (V : Type 0) (P : Stream → Type 0) (k : I
   at_cond true a c h g = h
   at_cond false a c h g = g
 
-  at_vacant : (i : ℕ) (what : What) (now : ℕ) → allowed what → V → IfLive V P (vacant_answer i what now).state
-  at_vacant i (Make reply config) now g v = at_cond (i + 1 == 2 ^ 62) _ _ v (k.empty i now reply config g v)
-  at_vacant i _ now g v = v
+  at_vacant : (i : ℕ) (what : What) (now : ℕ) (room : Bool) → allowed what → V → IfLive V P (vacant_answer i what now room).state
+  at_vacant i (Make reply config) now room g v = at_cond (i + 1 == 2 ^ 62) _ _ v (made room)
+    where
+      made : (room : Bool) → IfLive V P (stream_made i config now room).state
+      made true = k.empty i now reply config g v
+      made false = v
+  at_vacant i _ now room g v = v
 
   pub at_event : (old new : State) (e : Event) (now : ℕ) (reply : Reply) (outs : List Out) → IsEvent old e now reply outs new → allowed e.what → IfLive V P old → IfLive V P new
   unfolding answered
-  at_event (Vacant i) new e now reply outs x g h = subst (IfLive V P) (ap (λ (a : Answer). a.state) x.answers) (at_settled (vacant_answer i e.what now).state (at_vacant i e.what now g h))
+  at_event (Vacant i) new e now reply outs x g h = subst (IfLive V P) (ap (λ (a : Answer). a.state) x.answers) (at_settled (vacant_answer i e.what now x.room).state (at_vacant i e.what now x.room g h))
   at_event (Live s) new e now reply outs x g h = at_time s new e now reply outs x g (k.time s now h)
 
   -- a fact of which the consumers are no part

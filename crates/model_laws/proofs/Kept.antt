@@ -5,6 +5,7 @@ use Rattle.std.proofs.lemmas.Bool.{eqb-true, and_parts}
 use Rattle.js_base.specs.Bytes.{Bytes, has}
 use Rattle.js_base.specs.declared.out.Out.{Out}
 use Rattle.js_base.specs.declared.out.ApiError.{ApiError}
+use Rattle.js_model.specs.declared.stream_config.StreamConfig.{StreamConfig}
 use Rattle.js_model.specs.declared.consumer_config.ConsumerConfig.{ConsumerConfig}
 use Rattle.js_model.specs.declared.stream.Message.{Message}
 use Rattle.js_model.specs.declared.stream.Stream.{Stream}
@@ -35,7 +36,7 @@ use Rattle.js_model.specs.Trim.{trim}
 use Rattle.js_model.specs.Verdict.{verdict, message_of}
 use Rattle.js_model.specs.Acknowledge.{is_no_delivery}
 use Rattle.js_model.specs.Consumers.{making_checks, with_new, new_consumer}
-use Rattle.js_model.specs.Events.{stream_answer, answered, settled, settled_state, published, with_id, purge_list, deleted, message_at, message_told, message_by, told_of, consumer_made, consumer_asked, consumer_dropped, pull_answer, ack_answer, IsEvent}
+use Rattle.js_model.specs.Events.{stream_answer, with_config, answered, settled, settled_state, published, with_id, purge_list, deleted, message_at, message_told, message_by, told_of, consumer_made, or_no_room, consumer_asked, consumer_dropped, pull_answer, ack_answer, IsEvent}
 use Rattle.js_model.specs.Deliver.{IsDelivery}
 use Rattle.js_model.specs.Runs.{RunFrom, messages_of}
 use Rattle.model_laws.proofs.Whole.{join, IsSoundStream, IsSoundState}
@@ -76,15 +77,19 @@ module _ (m : Message) where
   if_message a None h = h
   if_message a (Some x) h = h
 
-  if_asked : (a : Stream) (name : Bytes) (config : ConsumerConfig) (update : Bool) (c : Option Consumer) → IsIn m a.messages → Holds m (consumer_asked a name config update c).state
-  if_asked a name config true None h = h
-  if_asked a name config false None h = go (first_refusal (making_checks a name config))
+  if_asked : (a : Stream) (name : Bytes) (config : ConsumerConfig) (update room : Bool) (c : Option Consumer) → IsIn m a.messages → Holds m (consumer_asked a name config update room c).state
+  if_asked a name config true room None h = h
+  if_asked a name config false room None h = go (or_no_room room (first_refusal (making_checks a name config)))
     where
       go : (e : Option ApiError) → Holds m (consumer_made a name config e).state
       go None = if_told (record a { consumers = with_new a.consumers (new_consumer a name config) }) _ h
       go (Some e) = h
-  if_asked a name config true (Some c) h = if_either (same_consumer_config config c.config) _ _ (if_told a _ h) h
-  if_asked a name config false (Some c) h = if_either (same_consumer_config config c.config) _ _ (if_told a _ h) h
+  if_asked a name config true room (Some c) h = if_either (same_consumer_config config c.config) _ _ (if_told a _ h) h
+  if_asked a name config false room (Some c) h = if_either (same_consumer_config config c.config) _ _ (if_told a _ h) h
+
+  if_config : (a : Stream) (config : StreamConfig) (room : Bool) → IsIn m a.messages → Holds m (with_config a config room).state
+  if_config a config true h = h
+  if_config a config false h = if_either (same_stream_config config a.config) _ _ h h
 
   if_dropped : (a : Stream) (c : Option Consumer) → IsIn m a.messages → Holds m (consumer_dropped a c).state
   if_dropped a None h = h
@@ -123,12 +128,12 @@ module _ (m : Message) where
   -- the event removes the message, or what it leaves holds it
   removed_or_held : (s : Stream) (now : ℕ) (new : State) (e : Event) (what : What) (room : Bool) → e.what ≡ what → Between (λ m. m.seq) 1 ((advance s now).last + 1) (advance s now).messages → IsIn m (advance s now).messages → LeavesOnEvent s e now new m ⊎ Holds m (stream_answer (advance s now) what room).state
   removed_or_held s now new e (Make reply config) room is ascending h = inr (if_either (same_stream_config config (advance s now).config) _ _ h h)
-  removed_or_held s now new e (Change reply config) room is ascending h = inr (if_either (same_retention config.retention (advance s now).config.retention) _ _ h h)
+  removed_or_held s now new e (Change reply config) room is ascending h = inr (if_either (same_retention config.retention (advance s now).config.retention) _ _ (if_config (advance s now) config room h) h)
   removed_or_held s now new e (DropStream reply) room is ascending h = inl (dropped reply is)
   removed_or_held s now new e (PublishIt p) room is ascending h = inr (if_published (advance s now) p (verdict (advance s now) p room) h)
   removed_or_held s now new e (Purge reply pattern below keep) room is ascending h = if_purged s now new e reply pattern below keep room is ascending h
   removed_or_held s now new e (Delete reply n) room is ascending h = if_deleted s now new e reply n room is h
-  removed_or_held s now new e (MakeConsumer reply name config update) room is ascending h = inr (if_asked (advance s now) name config update (by_name (advance s now).consumers name) h)
+  removed_or_held s now new e (MakeConsumer reply name config update) room is ascending h = inr (if_asked (advance s now) name config update room (by_name (advance s now).consumers name) h)
   removed_or_held s now new e (DropConsumer reply name) room is ascending h = inr (if_dropped (advance s now) (by_name (advance s now).consumers name) h)
   removed_or_held s now new e (AckIt reply ack) room is ascending h = inr (if_acked (advance s now) reply ack.seq ack.kind (by_name (advance s now).consumers ack.consumer) h)
   removed_or_held s now new e (PullIt reply name ask) room is ascending h = inr (if_pulled (advance s now) reply ask (by_name (advance s now).consumers name) h)

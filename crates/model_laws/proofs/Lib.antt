@@ -1,4 +1,5 @@
 pub mod Whole
+pub mod WithRoom
 pub mod Facts
 pub mod ConsumerFacts
 pub mod SoundParts

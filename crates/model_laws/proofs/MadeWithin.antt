@@ -27,7 +27,7 @@ use Rattle.js_model.specs.Refusals.{first_refusal, numbers_used_up}
 use Rattle.js_model.specs.Advance.{advance}
 use Rattle.js_model.specs.Verdict.{message_of}
 use Rattle.js_model.specs.Consumers.{empty_stream, is_before, new_consumer, with_new, making_checks}
-use Rattle.js_model.specs.Events.{answered, stream_answer, vacant_answer, vacantly, stream_told, settled, settled_state, with_message, with_id, told_of, consumer_made, consumer_asked, consumer_dropped, IsEvent}
+use Rattle.js_model.specs.Events.{answered, stream_answer, vacant_answer, vacantly, stream_made, settled, settled_state, with_message, with_id, told_of, consumer_made, or_no_room, consumer_asked, consumer_dropped, IsEvent}
 use Rattle.js_model.specs.Deliver.{IsDelivered}
 use Rattle.js_model.specs.Runs.{RunFrom, IsStep, IsDeliverStep, new_messages}
 use Rattle.model_laws.specs.OneConsumer.{drops, consumer_of}
@@ -127,14 +127,18 @@ module _ (name : Bytes) where
   absent_cond true a c h k = h
   absent_cond false a c h k = k
 
-  absent_vacant : (i : ℕ) (what : What) (now : ℕ) → IsAbsentIn (vacant_answer i what now).state
-  absent_vacant i (Make reply config) now = absent_cond (i + 1 == 2 ^ 62) (vacantly (Refused numbers_used_up) i) (stream_told (empty_stream (i + 1) config now)) tt refl
-  absent_vacant i _ now = tt
+  absent_vacant : (i : ℕ) (what : What) (now : ℕ) (room : Bool) → IsAbsentIn (vacant_answer i what now room).state
+  absent_vacant i (Make reply config) now room = absent_cond (i + 1 == 2 ^ 62) (vacantly (Refused numbers_used_up) i) (stream_made i config now room) tt (made room)
+    where
+      made : (room : Bool) → IsAbsentIn (stream_made i config now room).state
+      made true = refl
+      made false = tt
+  absent_vacant i _ now room = tt
 
   -- a stream that is made has no consumer
   none_yet : (i : ℕ) (new : State) (e : Event) (now : ℕ) (reply : Reply) (outs : List Out) → IsEvent (Vacant i) e now reply outs new → IsAbsentIn new
   unfolding answered
-  none_yet i new e now reply outs x = subst IsAbsentIn (ap (λ (a : Answer). a.state) x.answers) (absent_settled (vacant_answer i e.what now).state (absent_vacant i e.what now))
+  none_yet i new e now reply outs x = subst IsAbsentIn (ap (λ (a : Answer). a.state) x.answers) (absent_settled (vacant_answer i e.what now x.room).state (absent_vacant i e.what now x.room))
 
   -- only an event that asks for it makes it
   absent_event : (old new : State) (e : Event) (now : ℕ) (reply : Reply) (outs : List Out) → IsEvent old e now reply outs new → makes name e.what ≡ false → IsAbsentIn old → IsAbsentIn new
@@ -217,10 +221,10 @@ module _ (name : Bytes) where
   told_made new c (Some d) q k = (_, refl)
 
   -- if a consumer stands that was asked for, its making was told
-  asked_told : (a : Stream) (config : ConsumerConfig) (update : Bool) (c : Consumer) → IsAbsent a → consumer_of name (settled_state (consumer_asked a name config update None).state) ≡ Some c
-      → (info : ConsumerInfo) × ((consumer_asked a name config update None).reply ≡ ConsumerTold info)
-  asked_told a config true c h e = absurd (none_some (sym (none_of (settled_state (Live a)) (absent_settled (Live a) h)) ∙ e))
-  asked_told a config false c h e = go (first_refusal (making_checks a name config)) e
+  asked_told : (a : Stream) (config : ConsumerConfig) (update room : Bool) (c : Consumer) → IsAbsent a → consumer_of name (settled_state (consumer_asked a name config update room None).state) ≡ Some c
+      → (info : ConsumerInfo) × ((consumer_asked a name config update room None).reply ≡ ConsumerTold info)
+  asked_told a config true room c h e = absurd (none_some (sym (none_of (settled_state (Live a)) (absent_settled (Live a) h)) ∙ e))
+  asked_told a config false room c h e = go (or_no_room room (first_refusal (making_checks a name config))) e
     where
       new : Stream
       new = record a { consumers = with_new a.consumers (new_consumer a name config) }
@@ -240,14 +244,14 @@ module _ (name : Bytes) where
       absent : by_name a.consumers name ≡ None
       absent = absent_at_time s now name h
 
-      reply_is : (consumer_asked a name config update None).reply ≡ reply
-      reply_is = subst (λ (o : Option Consumer). (consumer_asked a name config update o).reply ≡ reply) absent (subst (λ (w : What). (stream_answer a w x.room).reply ≡ reply) q (ap (λ (b : Answer). b.reply) x.answers))
+      reply_is : (consumer_asked a name config update x.room None).reply ≡ reply
+      reply_is = subst (λ (o : Option Consumer). (consumer_asked a name config update x.room o).reply ≡ reply) absent (subst (λ (w : What). (stream_answer a w x.room).reply ≡ reply) q (ap (λ (b : Answer). b.reply) x.answers))
 
-      state_is : settled_state (consumer_asked a name config update None).state ≡ new
-      state_is = subst (λ (o : Option Consumer). settled_state (consumer_asked a name config update o).state ≡ new) absent (subst (λ (w : What). settled_state (stream_answer a w x.room).state ≡ new) q (ap (λ (b : Answer). b.state) x.answers))
+      state_is : settled_state (consumer_asked a name config update x.room None).state ≡ new
+      state_is = subst (λ (o : Option Consumer). settled_state (consumer_asked a name config update x.room o).state ≡ new) absent (subst (λ (w : What). settled_state (stream_answer a w x.room).state ≡ new) q (ap (λ (b : Answer). b.state) x.answers))
 
-      told : (info : ConsumerInfo) × ((consumer_asked a name config update None).reply ≡ ConsumerTold info)
-      told = asked_told a config update c absent (ap (consumer_of name) state_is ∙ k)
+      told : (info : ConsumerInfo) × ((consumer_asked a name config update x.room None).reply ≡ ConsumerTold info)
+      told = asked_told a config update x.room c absent (ap (consumer_of name) state_is ∙ k)
 
   -- ---- runs
 

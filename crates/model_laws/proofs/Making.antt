@@ -20,7 +20,7 @@ use Rattle.js_model.specs.Streams.{by_name, confined, seqs}
 use Rattle.js_model.specs.Refusals.{first_refusal}
 use Rattle.js_model.specs.Advance.{advance, aged, consumer_at, young}
 use Rattle.js_model.specs.Consumers.{new_consumer, with_new, making_checks}
-use Rattle.js_model.specs.Events.{answered, stream_answer, told_of, consumer_made, consumer_asked, IsEvent}
+use Rattle.js_model.specs.Events.{answered, stream_answer, told_of, consumer_made, or_no_room, consumer_asked, IsEvent}
 use Rattle.model_laws.specs.OneConsumer.{drops}
 use Rattle.model_laws.specs.Order.{Makes}
 use Rattle.js_model.proofs.Named.{none_some, by_name-map, by_name-made}
@@ -45,17 +45,17 @@ module _ (name : Bytes) (config : ConsumerConfig) (P : Consumer → Type 0) (k :
   told_made s None h = h
   told_made s (Some c) h = h
 
-  asked_made : (s : Stream) (update : Bool) (c : Option Consumer) (info : ConsumerInfo) → c ≡ None → by_name s.consumers name ≡ None → P (new_consumer s name config) → (consumer_asked s name config update c).reply ≡ ConsumerTold info
-      → InState name P (consumer_asked s name config update c).state
-  asked_made s true None info q e p r = absurd (refused_told r)
-  asked_made s false None info q e p r = go (first_refusal (making_checks s name config)) r
+  asked_made : (s : Stream) (update room : Bool) (c : Option Consumer) (info : ConsumerInfo) → c ≡ None → by_name s.consumers name ≡ None → P (new_consumer s name config) → (consumer_asked s name config update room c).reply ≡ ConsumerTold info
+      → InState name P (consumer_asked s name config update room c).state
+  asked_made s true room None info q e p r = absurd (refused_told r)
+  asked_made s false room None info q e p r = go (or_no_room room (first_refusal (making_checks s name config))) r
     where
       go : (refusal : Option ApiError) → (consumer_made s name config refusal).reply ≡ ConsumerTold info → InState name P (consumer_made s name config refusal).state
       go None w =
           told_made (record s { consumers = with_new s.consumers (new_consumer s name config) }) _
           (record { consumer = new_consumer s name config; found = by_name-made s.consumers (new_consumer s name config) e; holds = p })
       go (Some refusal) w = absurd (refused_told w)
-  asked_made s update (Some c) info q e p r = absurd (none_some (sym q))
+  asked_made s update room (Some c) info q e p r = absurd (none_some (sym q))
 
   -- what holds of a new consumer, and is kept, holds of the one that is made
   pub in_made : (s : Stream) (new : State) (e : Event) (now : ℕ) (reply : Reply) (outs : List Out) → IsEvent (Live s) e now reply outs new → Makes (Live s) e reply name config → P (new_consumer (advance s now) name config) → InState name P new
@@ -64,7 +64,7 @@ module _ (name : Bytes) (config : ConsumerConfig) (P : Consumer → Type 0) (k :
       subst (InState name P) (ap (λ (a : Answer). a.state) x.answers)
       (at_settled (λ w. drops name w ≡ false) ⊥ (InStream name P) (in_stream_fact name P k) (stream_answer (advance s now) e.what x.room).state
       (subst (λ (w : What). InState name P (stream_answer (advance s now) w x.room).state) (sym m.event)
-      (asked_made (advance s now) m.update (by_name (advance s now).consumers name) m.info absent absent p (told ∙ m.told))))
+      (asked_made (advance s now) m.update x.room (by_name (advance s now).consumers name) m.info absent absent p (told ∙ m.told))))
     where
       absent : by_name (advance s now).consumers name ≡ None
       absent = absent_at_time s now name m.absent

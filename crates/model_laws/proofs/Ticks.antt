@@ -361,7 +361,7 @@ ticked (Live s) now = record { reply = Silent; outs = advance_outs s now ++ []; 
 
 tick_answers : (s : State) (e : Event) (now : ℕ) (room : Bool) → e.what ≡ Tick → answered s e now room ≡ ticked s now
 unfolding answered
-tick_answers (Vacant i) e now room q = ap (λ (w : What). completed [] (vacant_answer i w now)) q
+tick_answers (Vacant i) e now room q = ap (λ (w : What). completed [] (vacant_answer i w now room)) q
 tick_answers (Live s) e now room q = ap (λ (w : What). completed (advance_outs s now) (stream_answer (advance s now) w room)) q
 
 again : (s : State) (now : ℕ) → (ticked s now).outs ≡ [] → ticked (ticked s now).state now ≡ record { reply = Silent; outs = []; state = (ticked s now).state }

@@ -249,7 +249,7 @@ fits_settled (Live t) = let w = settled_within t in record { per_subject = w.per
 
 pub fits_event : (old new : State) (e : Event) (now : ℕ) (reply : Reply) (outs : List Out) → IsEvent old e now reply outs new → FitsLimits new
 unfolding answered
-fits_event (Vacant i) new e now reply outs x = subst FitsLimits (ap (λ (a : Answer). a.state) x.answers) (fits_settled (vacant_answer i e.what now).state)
+fits_event (Vacant i) new e now reply outs x = subst FitsLimits (ap (λ (a : Answer). a.state) x.answers) (fits_settled (vacant_answer i e.what now x.room).state)
 fits_event (Live s) new e now reply outs x = subst FitsLimits (ap (λ (a : Answer). a.state) x.answers) (fits_settled (stream_answer (advance s now) e.what x.room).state)
 
 -- time and retention only drop messages

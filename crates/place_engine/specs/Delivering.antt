@@ -13,9 +13,9 @@ use Rattle.js_model.specs.Ready.{some_ready}
 use Rattle.effects.specs.Effects.{delivery_effects}
 use Rattle.effects.specs.declared.effect.Effect.{Effect}
 use Rattle.place_engine.specs.Following.{followed}
-use Rattle.place_engine.specs.Stepping.{Image, Seen, Elapses, IsPutOff, IsStopped, IsUndone, KeepsBase, LeavesVolume, MayKeepBase, MayPutOff, Passes, Rests}
+use Rattle.place_engine.specs.Stepping.{Image, Seen, Elapses, IsPutOff, IsStopped, IsUndone, LeavesVolume, MayKeepBase, MayPutOff, Passes, Rests}
 use Rattle.place_engine.specs.declared.faults.PlaceFault.{PlaceFault}
-use Rattle.place_engine.specs.declared.faults.PlaceFault.TheVariants.{NoMemory, StoreFault, Full, Stopped, Gone, Worn}
+use Rattle.place_engine.specs.declared.faults.PlaceFault.TheVariants.{NoMemory, StoreFault, Stopped, Gone, Worn}
 use Rattle.place_engine.specs.declared.faults.Left.TheVariants.{Nothing, Ticked, Unsaid}
 
 -- the machine makes the delivery, by which these outputs are sent
@@ -27,13 +27,12 @@ pub record Makes (now : ℕ) (listening : List Bytes) (delivery : Delivery) (out
 abbrev pub batch_with : ℕ → Delivery → Seen → Seen → List Effect
 batch_with now delivery old new = followed old.waiting (delivery_effects old.place.state now delivery new.place.state)
 
--- it is made, and its outputs are told. It may be committed, and the log had room for that
+-- it is made, and its outputs are told. It may be committed
 pub record TellsDelivery (delivery : Delivery) (now : ℕ) (listening : List Bytes) (old new : Seen) (before after : List Out) : Type 0 where
   pub sent : List Out
   pub makes : Makes now listening delivery sent old new
   pub goes : new.place.stopped ≡ None
   pub outs : after ≡ before ++ sent
-  pub fits : ¬ old.is_full (batch_with now delivery old new)
   pub may : MayPutOff (delivery_effects old.place.state now delivery new.place.state) old new
 
 -- no consumer is ready, and all is as it was
@@ -69,20 +68,7 @@ pub record BreaksDelivery (now : ℕ) (listening : List Bytes) (old new : Seen) 
   pub makes : Makes now listening delivery sent old new
   pub stops : new.place.stopped ≡ Some new.place.volume.faults
   pub cause : Rose old.place.volume.faults new.place.volume.faults
-  pub fits : ¬ old.is_full (batch_with now delivery old new)
   pub base : MayKeepBase old new
-  pub outs : after ≡ before
-
--- some delivery is made, the log of the store is too full for it, and the place is stopped at the count that its volume has then. Its outputs are told to
--- nobody
-pub record FillsDelivery (now : ℕ) (listening : List Bytes) (old new : Seen) (before after : List Out) : Type 0 where
-  pub delivery : Delivery
-  pub sent : List Out
-  pub makes : Makes now listening delivery sent old new
-  pub stops : new.place.stopped ≡ Some new.place.volume.faults
-  pub cause : old.is_full (batch_with now delivery old new)
-  pub base : KeepsBase old new
-  pub volume : LeavesVolume old new
   pub outs : after ≡ before
 
 abbrev pub EndsDelivery : Result (Option Delivery) PlaceFault → ℕ → List Bytes → Seen → Seen → List Out → List Out → Type 0
@@ -92,7 +78,6 @@ EndsDelivery (Err (NoMemory Nothing)) now listening old new before after = IsUnd
 EndsDelivery (Err (NoMemory Ticked)) now listening old new before after = Passes (tick_at old.place.state) now old new before after
 EndsDelivery (Err (NoMemory (Unsaid refused))) now listening old new before after = HidesDelivery now listening old new before after
 EndsDelivery (Err StoreFault) now listening old new before after = BreaksDelivery now listening old new before after
-EndsDelivery (Err Full) now listening old new before after = FillsDelivery now listening old new before after
 EndsDelivery (Err (Stopped count)) now listening old new before after = IsStopped count old new before after
 EndsDelivery (Err (Gone kept)) now listening old new before after = ⊥
 EndsDelivery (Err (Worn refused)) now listening old new before after = WearsDelivery now listening old new before after

@@ -4,7 +4,7 @@ use Rattle.js_base.specs.Causes.{Rose}
 use Rattle.js_model.specs.declared.stream.State.{State}
 use Rattle.place_engine.specs.Stepping.{Image, Seen, Elapses, IsFlushed, IsStopped, KeepsBase, LeavesVolume, MayKeepBase, Rests}
 use Rattle.place_engine.specs.declared.faults.PlaceFault.{PlaceFault}
-use Rattle.place_engine.specs.declared.faults.PlaceFault.TheVariants.{NoMemory, StoreFault, Full, Stopped, Gone, Worn}
+use Rattle.place_engine.specs.declared.faults.PlaceFault.TheVariants.{NoMemory, StoreFault, Stopped, Gone, Worn}
 use Rattle.place_engine.specs.declared.faults.Left.TheVariants.{Nothing, Ticked, Unsaid}
 
 -- the place was not stopped, and what stands there is as it was
@@ -13,10 +13,9 @@ pub record KeepsState (old new : Seen) : Type 0 where
   pub state : new.place.state ≡ old.place.state
   pub stored : new.place.stored ≡ old.place.stored
 
--- all that was made is on the volume, and nothing waits; the log had room for what waited
+-- all that was made is on the volume, and nothing waits
 pub record Flushed (old new : Seen) : Type 0 where
   pub keeps : KeepsState old new
-  pub fits : ¬ old.is_full old.waiting
   pub goes : new.place.stopped ≡ None
   pub flushed : IsFlushed new
 
@@ -31,16 +30,7 @@ pub record FailsFlush (old new : Seen) : Type 0 where
   pub keeps : KeepsState old new
   pub stops : new.place.stopped ≡ Some new.place.volume.faults
   pub cause : Rose old.place.volume.faults new.place.volume.faults
-  pub fits : ¬ old.is_full old.waiting
   pub base : MayKeepBase old new
-
--- the log of the store is too full for what waits, and the place is stopped at the count that its volume has then
-pub record FillsFlush (old new : Seen) : Type 0 where
-  pub keeps : KeepsState old new
-  pub stops : new.place.stopped ≡ Some new.place.volume.faults
-  pub cause : old.is_full old.waiting
-  pub base : KeepsBase old new
-  pub volume : LeavesVolume old new
 
 -- nothing was committed, since the numbers of the store's generations are used up
 pub record WearsFlush (old new : Seen) : Type 0 where
@@ -53,7 +43,6 @@ EndsFlush (Err (NoMemory Nothing)) old new = Unflushed old new
 EndsFlush (Err (NoMemory Ticked)) old new = ⊥
 EndsFlush (Err (NoMemory (Unsaid refused))) old new = ⊥
 EndsFlush (Err StoreFault) old new = FailsFlush old new
-EndsFlush (Err Full) old new = FillsFlush old new
 EndsFlush (Err (Stopped count)) old new = IsStopped count old new [] []
 EndsFlush (Err (Gone kept)) old new = ⊥
 EndsFlush (Err (Worn refused)) old new = WearsFlush old new

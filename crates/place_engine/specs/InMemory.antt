@@ -7,22 +7,23 @@ use Rattle.js_model.specs.declared.event.What.{What}
 use Rattle.js_model.specs.declared.event.What.TheVariants.{Tick}
 use Rattle.js_model.specs.Events.{kept_incarnation}
 use Rattle.js_model.specs.PlaceStates.{in_memory}
+use Rattle.place_engine.specs.Preparing.{RoomCauses}
 use Rattle.place_engine.specs.Stepping.{Image, Seen}
 use Rattle.place_engine.specs.declared.faults.Left.{Left}
 use Rattle.place_engine.specs.declared.faults.Left.TheVariants.{Nothing, Ticked, Unsaid}
 use Rattle.place_engine.specs.declared.faults.OpenFault.{OpenFault}
 use Rattle.place_engine.specs.declared.faults.OpenFault.TheVariants as opening
 use Rattle.place_engine.specs.declared.faults.PlaceFault.{PlaceFault}
-use Rattle.place_engine.specs.declared.faults.PlaceFault.TheVariants.{NoMemory, StoreFault, Full, Stopped, Gone, Worn}
+use Rattle.place_engine.specs.declared.faults.PlaceFault.TheVariants.{NoMemory, StoreFault, Stopped, Gone, Worn}
 
 -- the state of a place, and its volume
 pub record Contents (V : Type 0) : Type 0 where
   pub state : State
   pub vol : V
 
--- it has a block for each message, nothing waits and no log is full; a crash leaves nothing, so that its volume holds no state
+-- there is room for all that is asked, and nothing waits; a crash leaves nothing, so that its volume holds no state
 abbrev pub seen_of : State → Seen
-seen_of state = record { place = in_memory state; is_base = λ b. ⊥; waiting = []; room = λ what. true; is_full = λ effects. ⊥; left_since = λ t image. ⊥ }
+seen_of state = record { place = in_memory state; is_base = λ b. ⊥; waiting = []; room = λ what. true; left_since = λ t image. ⊥ }
 
 -- no image of a volume holds a state
 abbrev pub holds_nothing : Image → State → Type 0
@@ -49,6 +50,10 @@ leaves_nothing vol t image = ⊥
 abbrev pub counts_none : {V : Type 0} → V → ℕ
 counts_none vol = 0
 
+-- there always is room
+abbrev pub never_short : {V : Type 0} → RoomCauses V
+never_short = record { refusals = counts_none; outgrows_log = λ state what. ⊥ }
+
 -- what a step leaves that finds no memory once time has passed: the latter if there is a stream
 abbrev pub left_of : State → Left
 left_of (Vacant last) = Nothing
@@ -66,7 +71,6 @@ MayLeave old what (Unsaid refused) = ⊥
 abbrev pub HasCause : State → Event → PlaceFault → Type 0
 HasCause old event (NoMemory left) = (event.incarnation ≡ kept_incarnation old) × MayLeave old event.what left
 HasCause old event StoreFault = ⊥
-HasCause old event Full = ⊥
 HasCause old event (Stopped count) = ⊥
 HasCause old event (Gone kept) = (event.incarnation ≢ kept_incarnation old) × (kept ≡ kept_incarnation old)
 HasCause old event (Worn refused) = ⊥
@@ -77,7 +81,6 @@ IsWantOfMemory (NoMemory Nothing) = Unit {0}
 IsWantOfMemory (NoMemory Ticked) = Unit {0}
 IsWantOfMemory (NoMemory (Unsaid refused)) = ⊥
 IsWantOfMemory StoreFault = ⊥
-IsWantOfMemory Full = ⊥
 IsWantOfMemory (Stopped count) = ⊥
 IsWantOfMemory (Gone kept) = ⊥
 IsWantOfMemory (Worn refused) = ⊥

@@ -7,3 +7,4 @@ pub mod Delivering
 pub mod InMemory
 pub mod Flushing
 pub mod Opening
+pub mod Preparing

@@ -1,10 +1,13 @@
 -- What a place is opened to, in memory and on a volume alike.
 use Rattle.std.specs.Prelude.{◌≡◌, ◌⊎◌, ◌≤◌, ℕ, length, None}
+use Rattle.js_base.specs.Causes.{Rose}
 use Rattle.js_model.specs.declared.stream.State.{State}
+use Rattle.js_model.specs.declared.event.What.TheVariants.{Tick}
 use Rattle.js_model.specs.Lasting.{lasting}
 use Rattle.js_model.specs.Runs.{messages_of}
 use Rattle.model_laws.specs.Bounds.{IsBounded, IsWritable}
 use Rattle.model_laws.specs.Sound.{IsSound}
+use Rattle.place_engine.specs.Preparing.{RoomCauses}
 use Rattle.place_engine.specs.Stepping.{Image, IsFlushed, Seen}
 
 -- Of a kind of place: which state an image of a volume holds, the image that reads of a volume give, what a crash of it at some moment from one on may have
@@ -36,3 +39,8 @@ module _ {V : Type 0} (holds : Image → State → Type 0) (reads : V → Image 
   -- no place was opened on it: what it may open to, a crash leaves as before
   abbrev pub IsUnopened : (opens : V → State → Type 0) → V → V → Type 0
   IsUnopened opens vol after = (state : State) → opens vol state → KeepsHeld vol state (left after)
+
+-- why a place was not opened for want of room: the volume refused some, or what it opens to is more already than a log can begin with
+abbrev pub HasNoRoom : {V : Type 0} → RoomCauses V → (V → State → Type 0) → V → V → Type 0
+HasNoRoom causes opens vol after =
+    Rose (causes.refusals vol) (causes.refusals after) ⊎ ((state : State) × opens vol state × causes.outgrows_log state Tick)

@@ -1,5 +1,5 @@
 -- What a place promises of each step, in memory and on a volume alike.
-use Rattle.std.specs.Prelude.{◌≡◌, ◌≢◌, ◌⊎◌, ◌≤◌, ◌+◌, ◌-◌, ◌^◌, ℕ, Bool, true, List, [], ◌++◌, length, Option, None, Some, Result, Ok, Err}
+use Rattle.std.specs.Prelude.{◌≡◌, ◌≢◌, ◌⊎◌, ◌≤◌, ◌+◌, ◌-◌, ◌^◌, ℕ, Bool, true, false, List, [], ◌++◌, length, Option, None, Some, Result, Ok, Err}
 use Rattle.js_base.specs.Bytes.{Bytes}
 use Rattle.js_base.specs.Causes.{Rose}
 use Rattle.js_base.specs.declared.out.Out.{Out}
@@ -8,9 +8,9 @@ use Rattle.js_model.specs.declared.event.Event.{Event}
 use Rattle.js_model.specs.declared.event.What.{What}
 use Rattle.js_model.specs.declared.event.What.TheVariants.{Tick}
 use Rattle.js_model.specs.declared.reply.Reply.{Reply}
-use Rattle.js_model.specs.Events.{answered, is_refused, kept_incarnation}
+use Rattle.js_model.specs.Events.{answered, asks_room, is_refused, kept_incarnation}
 use Rattle.js_model.specs.Firm.{IsFirmStep}
-use Rattle.js_model.specs.Runs.{is_few, new_messages}
+use Rattle.js_model.specs.Runs.{new_messages}
 use Rattle.js_model.specs.Lasting.{lasting}
 use Rattle.js_model.specs.PlaceStates.{PlaceIn}
 use Rattle.effects.specs.Effects.{event_effects}
@@ -18,7 +18,7 @@ use Rattle.effects.specs.Laws.{Leads}
 use Rattle.effects.specs.declared.effect.Effect.{Effect}
 use Rattle.place_engine.specs.Following.{followed}
 use Rattle.place_engine.specs.declared.faults.PlaceFault.{PlaceFault}
-use Rattle.place_engine.specs.declared.faults.PlaceFault.TheVariants.{NoMemory, StoreFault, Full, Stopped, Gone, Worn}
+use Rattle.place_engine.specs.declared.faults.PlaceFault.TheVariants.{NoMemory, StoreFault, Stopped, Gone, Worn}
 use Rattle.place_engine.specs.declared.faults.Left.TheVariants.{Nothing, Ticked, Unsaid}
 
 -- the bytes of each file of a volume
@@ -26,8 +26,8 @@ abbrev pub Image : Type 0
 Image = ℕ → Bytes
 
 -- A place as it is seen: what stands there; which states its volume may hold, its bases; the records of what was made since, which wait for a commit;
--- whether the store has a block for what is asked; whether its log would be too long with such records, which it never is in memory; and what a crash at
--- some moment of the volume from one on may have left, which is nothing in memory.
+-- whether there is room for what is asked, which there always is in memory; and what a crash at some moment of the volume from one on may have left, which is
+-- nothing in memory.
 -- A base is told by a predicate and is no value: once records wait, the bytes of the volume alone have it, and of a volume of which nothing is known there
 -- is none. The commit that stopped a place may have been made or not, so that a stopped place can have two.
 pub record Seen : Type 1 where
@@ -35,7 +35,6 @@ pub record Seen : Type 1 where
   pub is_base : State → Type 0
   pub waiting : List Effect
   pub room : What → Bool
-  pub is_full : List Effect → Type 0
   pub left_since : ℕ → Image → Type 0
 
 -- ---- crashes
@@ -46,18 +45,18 @@ Waits None is_base waiting state = (b : State) → is_base b → Leads b waiting
 Waits (Some count) is_base waiting state = (b : State) → is_base b → Leads b waiting (lasting state) ⊎ (b ≡ lasting state)
 
 -- between two calls: each image of a crash now holds a base, so that there is one wherever a crash may leave anything, and one alone unless the place is
--- stopped. A store has a block for one more message if few count against it, and its log has room if nothing is to be committed
+-- stopped. What asks for no room has it
 pub record IsKept (holds : Image → State → Type 0) (s : Seen) : Type 0 where
   pub waits : Waits s.place.stopped s.is_base s.waiting s.place.state
   pub one : s.place.stopped ≡ None → (a b : State) → s.is_base a → s.is_base b → a ≡ b
   pub now : (image : Image) → s.left_since s.place.volume.moment image → (b : State) × holds image b × s.is_base b
-  pub free : is_few s.place.stored ≡ true → (what : What) → s.room what ≡ true
-  pub fits_none : ¬ s.is_full []
+  pub free : (what : What) → asks_room what ≡ false → s.room what ≡ true
   pub earlier : (t u : ℕ) (image : Image) → t ≤ u → s.left_since u image → s.left_since t image
 
 -- within a call: a crash leaves what it could leave before, or a base from before, or what outlives a crash of the state after it
 pub record Elapses (holds : Image → State → Type 0) (old new : Seen) : Type 0 where
   pub faults : old.place.volume.faults ≤ new.place.volume.faults
+  pub refusals : old.place.volume.refusals ≤ new.place.volume.refusals
   pub moments : old.place.volume.moment ≤ new.place.volume.moment
   pub generations : old.place.volume.generation ≤ new.place.volume.generation
   pub goes_on : (t : ℕ) (image : Image) → t ≤ old.place.volume.moment → new.left_since t image
@@ -108,9 +107,8 @@ pub record Does (event : Event) (now : ℕ) (old new : Seen) : Type 0 where
   pub kept : event.incarnation ≡ kept_incarnation old.place.state
   pub state : new.place.state ≡ (answered old.place.state event now (old.room event.what)).state
 
--- a confirmed step is on the volume with all before it; another one may be. The log had room for what is to be committed
+-- a confirmed step is on the volume with all before it; another one may be
 pub record Commits (event : Event) (now : ℕ) (reply : Reply) (old new : Seen) : Type 0 where
-  pub fits : ¬ old.is_full (batch_of event now old)
   pub firm : IsFirmStep old.place.state event.what reply new.place.state → IsFlushed new
   pub may : MayPutOff (effects_of event now old) old new
 
@@ -159,17 +157,7 @@ pub record Breaks (event : Event) (now : ℕ) (old new : Seen) (before after : L
   pub does : Does event now old new
   pub stops : new.place.stopped ≡ Some new.place.volume.faults
   pub cause : Rose old.place.volume.faults new.place.volume.faults
-  pub fits : ¬ old.is_full (batch_of event now old)
   pub base : MayKeepBase old new
-  pub outs : after ≡ before
-
--- it is made, the log of the store is too full for it, and the place is stopped at the count that its volume has then
-pub record Fills (event : Event) (now : ℕ) (old new : Seen) (before after : List Out) : Type 0 where
-  pub does : Does event now old new
-  pub stops : new.place.stopped ≡ Some new.place.volume.faults
-  pub cause : old.is_full (batch_of event now old)
-  pub base : KeepsBase old new
-  pub volume : LeavesVolume old new
   pub outs : after ≡ before
 
 -- nothing was made. The volume of a place that goes on may have been called
@@ -202,7 +190,6 @@ Ends (Err (NoMemory Nothing)) event now old new before after = IsUndone old new 
 Ends (Err (NoMemory Ticked)) event now old new before after = Passes event now old new before after
 Ends (Err (NoMemory (Unsaid refused))) event now old new before after = Withholds refused event now old new before after
 Ends (Err StoreFault) event now old new before after = Breaks event now old new before after
-Ends (Err Full) event now old new before after = Fills event now old new before after
 Ends (Err (Stopped count)) event now old new before after = IsStopped count old new before after
 Ends (Err (Gone kept)) event now old new before after = IsGone kept event old new before after
 Ends (Err (Worn refused)) event now old new before after = IsWornOut refused event now old new before after

@@ -12,6 +12,9 @@ pub enum OpenFault {
     Damaged { file: u32, at: u64 },
     #[error("unknown version {0}")]
     UnknownVersion(u64),
+    /// There is no room for what the place may have to write.
+    #[error("no room")]
+    NoRoom,
     #[error("out of memory")]
     NoMemory,
 }
@@ -36,15 +39,11 @@ pub enum Left {
 pub enum PlaceFault {
     #[error("out of memory")]
     NoMemory(Left),
-    /// The store failed in this call. The event was made, the outputs are as they were, and the place is stopped at the count of faults that its
-    /// volume has now.
+    /// The store failed in this call. The event was made, unless it was only prepared; the outputs are as they were, and the place is stopped at the count of
+    /// faults that its volume has now.
     #[error("the store failed")]
     StoreFault,
-    /// The log of the store would be longer than it may be. The event was made, the outputs are as they were, nothing was written, and the place is stopped
-    /// at the count of faults that its volume has now.
-    #[error("log full")]
-    Full,
-    /// The store failed before, or its log was full, and the volume had failed so often then. All is as it was.
+    /// The store failed before, and the volume had failed so often then. All is as it was.
     #[error("stopped at fault {0}")]
     Stopped(u64),
     /// The event is for another stream than the one of this incarnation, or than the next one if there is none. All is as it was.

@@ -6,13 +6,14 @@ ghost use Rattle.js_base.specs.Causes.{Rose};
 ghost use Rattle.js_model.specs.declared.stream.State.{State};
 ghost use Rattle.js_model.specs.Events.{kept_incarnation};
 ghost use Rattle.js_model.specs.Lasting.{lasting};
-ghost use Rattle.js_model.specs.Proper.{is_proper};
+ghost use Rattle.js_model.specs.Proper.{is_proper, is_proper_what};
 ghost use Rattle.js_model.specs.Ready.{some_ready};
 ghost use Rattle.place_engine.specs.declared.faults.OpenFault.{OpenFault};
 ghost use Rattle.place_engine.specs.Delivering.{Delivers};
 ghost use Rattle.place_engine.specs.Flushing.{Flushes};
-ghost use Rattle.place_engine.specs.Opening.{IsOpened, IsUnopened};
+ghost use Rattle.place_engine.specs.Opening.{HasNoRoom, IsOpened, IsUnopened};
 ghost use Rattle.place_engine.specs.Places.{IsTold, messages_in, name_in, subjects_in};
+ghost use Rattle.place_engine.specs.Preparing.{Prepares, RoomCauses};
 ghost use Rattle.place_engine.specs.Pushes.{push_of, pushes_in};
 ghost use Rattle.place_engine.specs.Shown.{IsShown};
 ghost use Rattle.place_engine.specs.Stepping.{Image, IsKept, Seen, Steps};
@@ -22,7 +23,7 @@ ghost use Rattle.timers.specs.Timers.{timers};
 use crate::faults::{OpenFault, PlaceFault};
 use crate::push::Push;
 use js_base::{Blob, Moment, Outs};
-use js_model::{Delivery, Event, Listening, Reply};
+use js_model::{Delivery, Event, Listening, Reply, What};
 use std::alloc::Global;
 
 /// A place, vacant or with a stream, and its volume.
@@ -54,6 +55,9 @@ pub trait Place {
     /// How often a volume failed.
     ghost faults: { Self.Vol → ℕ };
 
+    /// Why an event may find no room.
+    ghost room_causes: { RoomCauses Self.Vol };
+
     /// Which states a volume may hold whose place is stopped at a count of faults, or not stopped.
     ghost base: { Option ℕ → Self.Vol → State → Type 0 };
 
@@ -63,12 +67,14 @@ pub trait Place {
     /// Why a place may not be opened on a volume.
     ghost refuses: { Self.Vol → OpenFault → Type 0 };
 
-    /// Opens the place of a volume. An `Err` gives the volume back; `Fault` comes only if its count of faults rose.
+    /// Opens the place of a volume, and makes the room that it may need. An `Err` gives the volume back; `Fault` comes only if its count of faults rose, and
+    /// `NoRoom` only if its count of refusals rose, or if it holds more than a log can begin with.
     fn open(alloc: Global, volume: Self::Vol) -> Result<Self, (OpenFault, Self::Vol)>
         ensures opened { IfOk result (λ place. IsOpened holds reads left clock opens volume (seen place)) }
         ensures vol { IfOk result (λ place. keeps_vol volume (vol place)) }
         ensures refused { IfErr result (λ stop. refuses volume stop.0) }
         ensures cause { IfErr result (λ stop. stop.0 ≡ OpenFault.Fault → Rose (faults volume) (faults stop.1)) }
+        ensures no_room { IfErr result (λ stop. stop.0 ≡ OpenFault.NoRoom → HasNoRoom room_causes opens volume stop.1) }
         ensures unopened { IfErr result (λ stop. IsUnopened holds reads left clock opens volume stop.1) }
         ensures given_back { IfErr result (λ stop. keeps_vol volume stop.1) };
 
@@ -111,6 +117,15 @@ pub trait Place {
     /// been done, as a tick leaves a place, time alone changes until then nothing of what it holds but its own moment.
     fn next_timer(&self) -> Option<Moment>
         ensures bound { IsTimerBound (timers (seen self.now).place.state) result };
+
+    /// Makes room for what an event may need, if there is some: a step looks only at the room that is there, and refuses what it has none for. Nothing else
+    /// changes. The volume is called only for what may make the place hold more: a publish, the making of a stream or of a consumer, and another configuration.
+    /// What each fault leaves of the place is said at [`PlaceFault`]: of `NoMemory` only `Left::Nothing` comes, and neither `Gone` nor
+    /// `Worn` does.
+    fn prepare(&mut self, what: &What) -> Result<(), PlaceFault>
+        requires proper { IsTrue (is_proper_what what.now) }
+        ensures prepares { Prepares holds room_causes.outgrows_log result what.now (seen self.old) (seen self.new) }
+        ensures vol { keeps_vol (vol self.old) (vol self.new) };
 
     /// Makes an event at a moment, answers it, and adds what it sends to the outputs. What each fault leaves of the place and of the outputs is
     /// said at [`PlaceFault`]; if a place is stopped, the event's incarnation is not looked at.
@@ -161,8 +176,8 @@ pub trait Place {
     /// A place opens to what reads give.
     ghost opens_read: { (v : Self.Vol) (state : State) (image : Image) → opens v state → reads v image → holds image state };
 
-    /// A volume of which reads give something that an image may hold is refused only if it fails, or memory runs out.
-    ghost refuses_read: { (v : Self.Vol) (fault : OpenFault) (image : Image) (b : State) → reads v image → holds image b → refuses v fault → (fault ≡ OpenFault.Fault) ⊎ (fault ≡ OpenFault.NoMemory) };
+    /// A volume of which reads give something that an image may hold is refused only if it fails, if memory runs out, or if there is no room.
+    ghost refuses_read: { (v : Self.Vol) (fault : OpenFault) (image : Image) (b : State) → reads v image → holds image b → refuses v fault → (fault ≡ OpenFault.Fault) ⊎ ((fault ≡ OpenFault.NoMemory) ⊎ (fault ≡ OpenFault.NoRoom)) };
 
     /// The bases of a place are those of its volume.
     ghost bases: { (place : Self) (b : State) → (seen place).is_base b ↔ base (seen place).place.stopped (vol place) b };
@@ -174,10 +189,10 @@ pub trait Place {
     ghost earlier: { (v : Self.Vol) (t u : ℕ) (image : Image) → t ≤ u → left v u image → left v t image };
 
     /// Where the volume of a place stands is told of the place.
-    ghost stands: { (place : Self) → ((seen place).place.volume.moment ≡ clock (vol place)) × ((seen place).place.volume.faults ≡ faults (vol place)) };
+    ghost stands: { (place : Self) → ((seen place).place.volume.moment ≡ clock (vol place)) × ((seen place).place.volume.faults ≡ faults (vol place)) × ((seen place).place.volume.refusals ≡ room_causes.refusals (vol place)) };
 
-    /// Neither the moment of a volume nor its count of faults falls.
-    ghost keeps_later: { (a b : Self.Vol) → keeps_vol a b → (clock a ≤ clock b) × (faults a ≤ faults b) };
+    /// Neither the moment of a volume nor one of its counts of faults and of refusals falls.
+    ghost keeps_later: { (a b : Self.Vol) → keeps_vol a b → (clock a ≤ clock b) × (faults a ≤ faults b) × (room_causes.refusals a ≤ room_causes.refusals b) };
 
     /// A call may leave the volume as it is.
     ghost keeps_none: { (v : Self.Vol) → keeps_vol v v };

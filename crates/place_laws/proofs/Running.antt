@@ -1,14 +1,15 @@
 -- The calls of a place make a run.
-use Rattle.std.proofs.Common.{◌≡◌, ◌≤◌, ◌++◌, ℕ, List, [], length, Some, refl, sym, ap, subst, ◌∙◌}
+use Rattle.std.proofs.Common.{◌≡◌, ◌++◌, ℕ, List, [], length, Some, refl, sym, ap, subst, ◌∙◌}
+use Rattle.js_model.specs.declared.event.What.{What}
 use Rattle.js_model.specs.declared.stream.State.{State}
 use Rattle.js_model.specs.declared.entry.PlaceEntry.{PlaceEntry}
 use Rattle.js_model.specs.Runs.{RunFrom, messages_of}
 use Rattle.place_engine.specs.Stepping.{Image, Seen}
-use Rattle.place_laws.specs.Calls.{Calls, NoCall, AStep, ADelivery, AFlush}
+use Rattle.place_laws.specs.Calls.{Calls, NoCall, APreparing, AStep, ADelivery, AFlush}
 use Rattle.place_laws.specs.Laws.{LawCalls}
-use Rattle.place_laws.proofs.Entries.{StaysStopped, delivery_runs, delivery_stopped, flush_same, flush_stopped, step_runs, step_stopped}
+use Rattle.place_laws.proofs.Entries.{StaysStopped, delivery_runs, delivery_stopped, flush_same, flush_stopped, prepare_same, prepare_stopped, step_runs, step_stopped}
 
-module _ {P : Type 0} (seen : P → Seen) (holds : Image → State → Type 0) where
+module _ {P : Type 0} (seen : P → Seen) (holds : Image → State → Type 0) (outgrows : State → What → Type 0) where
   -- the calls of a stopped place make nothing
   record MadeNothing (old new : P) (entries : List PlaceEntry) : Type 0 where
     none : entries ≡ []
@@ -17,7 +18,7 @@ module _ {P : Type 0} (seen : P → Seen) (holds : Image → State → Type 0) w
   after_that : (old mid new : P) (made more : List PlaceEntry) → StaysStopped (seen old) (seen mid) made → MadeNothing mid new more → MadeNothing old new (made ++ more)
   after_that old mid new made more h k = record { none = ap (λ (xs : List PlaceEntry). xs ++ more) h.none ∙ k.none; state = k.state ∙ h.state }
 
-  nothing : (n : ℕ) (old new : P) (entries : List PlaceEntry) → (seen old).place.stopped ≡ Some n → Calls seen holds old entries new → MadeNothing old new entries
+  nothing : (n : ℕ) (old new : P) (entries : List PlaceEntry) → (seen old).place.stopped ≡ Some n → Calls seen holds outgrows old entries new → MadeNothing old new entries
   nothing n old new entries is (NoCall s) = record { none = refl; state = refl }
   nothing n old new entries is (AStep old_ mid new_ made more call rest) =
       let stays : StaysStopped (seen old) (seen mid) made =
@@ -32,23 +33,27 @@ module _ {P : Type 0} (seen : P → Seen) (holds : Image → State → Type 0) w
   nothing n old new entries is (AFlush old_ mid new_ more call rest) =
       let stays : StaysStopped (seen old) (seen mid) [] = flush_stopped (seen old) (seen mid) n call.result is call.flushes.ends in
       after_that old mid new [] more stays (nothing n mid new more (stays.stopped ∙ is) rest)
+  nothing n old new entries is (APreparing old_ mid new_ more call rest) =
+      let stays : StaysStopped (seen old) (seen mid) [] = prepare_stopped outgrows call.what (seen old) (seen mid) n call.result is call.prepares.ends in
+      after_that old mid new [] more stays (nothing n mid new more (stays.stopped ∙ is) rest)
 
-  ends : (mid new : P) (more : List PlaceEntry) → Calls seen holds mid more new → (n : ℕ) → (seen mid).place.stopped ≡ Some n → (more ≡ []) × ((seen new).place.state ≡ (seen mid).place.state)
+  ends : (mid new : P) (more : List PlaceEntry) → Calls seen holds outgrows mid more new → (n : ℕ) → (seen mid).place.stopped ≡ Some n → (more ≡ []) × ((seen new).place.state ≡ (seen mid).place.state)
   ends mid new more rest n is = let h = nothing n mid new more is rest in (h.none, h.state)
 
-  runs : (count : ℕ) (old new : P) (entries : List PlaceEntry) → (seen old).place.stored ≤ count → Calls seen holds old entries new → RunFrom count (seen old).place.state entries (seen new).place.state
-  runs count old new entries le (NoCall s) = refl
-  runs count old new entries le (AStep old_ mid new_ made more call rest) =
+  runs : (count : ℕ) (old new : P) (entries : List PlaceEntry) → Calls seen holds outgrows old entries new → RunFrom count (seen old).place.state entries (seen new).place.state
+  runs count old new entries (NoCall s) = refl
+  runs count old new entries (AStep old_ mid new_ made more call rest) =
       subst (λ (xs : List PlaceEntry). RunFrom count (seen old).place.state (xs ++ more) (seen new).place.state) (sym call.made_is)
-      (step_runs holds count call.now (seen old) (seen mid) more (seen new).place.state call.kept call.moment le (λ later below. runs later mid new more below rest) (ends mid new more rest)
+      (step_runs holds count call.now (seen old) (seen mid) more (seen new).place.state call.moment (λ later. runs later mid new more rest) (ends mid new more rest)
       call.result call.seat call.event call.before call.after call.proper call.steps)
-  runs count old new entries le (ADelivery old_ mid new_ made more call rest) =
+  runs count old new entries (ADelivery old_ mid new_ made more call rest) =
       subst (λ (xs : List PlaceEntry). RunFrom count (seen old).place.state (xs ++ more) (seen new).place.state) (sym call.made_is)
-      (delivery_runs holds count call.now (seen old) (seen mid) more (seen new).place.state call.kept call.moment le (λ later below. runs later mid new more below rest) (ends mid new more rest)
+      (delivery_runs holds count call.now (seen old) (seen mid) more (seen new).place.state call.moment (λ later. runs later mid new more rest) (ends mid new more rest)
       call.result call.seat call.listening call.before call.after call.bound call.delivers)
-  runs count old new entries le (AFlush old_ mid new_ more call rest) =
-      let same = flush_same (seen old) (seen mid) call.result call.flushes.ends in
-      subst (λ (s : State). RunFrom count s more (seen new).place.state) same.state (runs count mid new more (subst (λ (n : ℕ). n ≤ count) (sym same.stored) le) rest)
+  runs count old new entries (AFlush old_ mid new_ more call rest) =
+      subst (λ (s : State). RunFrom count s more (seen new).place.state) (flush_same (seen old) (seen mid) call.result call.flushes.ends) (runs count mid new more rest)
+  runs count old new entries (APreparing old_ mid new_ more call rest) =
+      subst (λ (s : State). RunFrom count s more (seen new).place.state) (prepare_same outgrows call.what (seen old) (seen mid) call.result call.prepares.ends) (runs count mid new more rest)
 
-pub law_calls : {P : Type 0} (seen : P → Seen) (holds : Image → State → Type 0) → LawCalls seen holds
-law_calls seen holds old new entries le calls = runs seen holds (length (messages_of (seen old).place.state)) old new entries le calls
+pub law_calls : {P : Type 0} (seen : P → Seen) (holds : Image → State → Type 0) (outgrows : State → What → Type 0) → LawCalls seen holds outgrows
+law_calls seen holds outgrows old new entries calls = runs seen holds outgrows (length (messages_of (seen old).place.state)) old new entries calls

@@ -1,21 +1,21 @@
 -- What holds of the calls of a place, in memory or on a volume: the laws of the machine hold of the run that they make.
-use Rattle.std.specs.Prelude.{◌≤◌, ◌↔◌, ℕ, IsTrue, List, length}
+use Rattle.std.specs.Prelude.{◌↔◌, ℕ, IsTrue, List}
 use Rattle.js_base.specs.Bytes.{Bytes}
 use Rattle.js_base.specs.declared.out.Out.{Out}
 use Rattle.js_model.specs.declared.stream.State.{State}
+use Rattle.js_model.specs.declared.event.What.{What}
 use Rattle.js_model.specs.declared.entry.Delivery.{Delivery}
 use Rattle.js_model.specs.declared.entry.PlaceEntry.{PlaceEntry}
 use Rattle.js_model.specs.Deliver.{IsDelivered}
 use Rattle.js_model.specs.Ready.{some_ready}
-use Rattle.js_model.specs.Runs.{Run, messages_of}
+use Rattle.js_model.specs.Runs.{Run}
 use Rattle.model_laws.specs.Sound.{IsSound}
 use Rattle.place_engine.specs.Stepping.{Image, Seen}
 use Rattle.place_laws.specs.Calls.{Calls}
 
--- the calls of a place make a run, if no more messages count against its store at first than stand there
-abbrev pub LawCalls : {P : Type 0} → (P → Seen) → (Image → State → Type 0) → Type 0
-LawCalls {P} seen holds = (old new : P) (entries : List PlaceEntry)
-    → (seen old).place.stored ≤ length (messages_of (seen old).place.state) → Calls seen holds old entries new → Run (seen old).place.state entries (seen new).place.state
+-- the calls of a place make a run
+abbrev pub LawCalls : {P : Type 0} → (P → Seen) → (Image → State → Type 0) → (State → What → Type 0) → Type 0
+LawCalls {P} seen holds outgrows = (old new : P) (entries : List PlaceEntry) → Calls seen holds outgrows old entries new → Run (seen old).place.state entries (seen new).place.state
 
 -- some delivery can be made
 abbrev pub CanDeliver : State → ℕ → List Bytes → Type 0

@@ -29,7 +29,7 @@ use Rattle.js_model.specs.Verdict.{verdict, early_checks, late_checks}
 use Rattle.js_model.specs.Acknowledge.{is_no_delivery, ends}
 use Rattle.js_model.specs.Start.{picks_at, cursor_at, matching}
 use Rattle.js_model.specs.Consumers.{making_checks}
-use Rattle.js_model.specs.Events.{message_at}
+use Rattle.js_model.specs.Events.{message_at, or_no_room}
 use Rattle.js_model.proofs.Parts.{part_map, part_trans, part_between, newest_part, filter_part, between_map}
 use Rattle.model_laws.proofs.Whole.{IsSoundConsumer}
 use Rattle.model_laws.proofs.Bounded.{ArePassed, all_passed, taken_passed}
@@ -125,11 +125,16 @@ module _ (s : Stream) (h : IsNumbered s) where
           and_from _ _ (lt-ltb (length (picks_at config.deliver_policy config.filter_subject s)) (2 ^ 32) (omega arith))
           (numbers 1 (s.last + 1) (picks_at config.deliver_policy config.filter_subject s) (picked config.deliver_policy config.filter_subject) end)
 
-  allowed_make : (reply : Option Bytes) (name : Bytes) (config : ConsumerConfig) (update : Bool) → IsProperWhat (MakeConsumer reply name config update) → (c : Option Consumer) → Allowed (make_effects s name config update c)
-  allowed_make reply name config true proper None = refl
-  allowed_make reply name config false proper None = allowed_made reply name config proper (first_refusal (making_checks s name config)) refl
-  allowed_make reply name config true proper (Some c) = refl
-  allowed_make reply name config false proper (Some c) = refl
+  allowed_make : (reply : Option Bytes) (name : Bytes) (config : ConsumerConfig) (update room : Bool) → IsProperWhat (MakeConsumer reply name config update) → (c : Option Consumer) → Allowed (make_effects s name config update room c)
+  allowed_make reply name config true room proper None = refl
+  allowed_make reply name config false true proper None = allowed_made reply name config proper (first_refusal (making_checks s name config)) refl
+  allowed_make reply name config false false proper None = none_made (first_refusal (making_checks s name config))
+    where
+      none_made : (e : Option ApiError) → Allowed (made_effects s name config (or_no_room false e))
+      none_made None = refl
+      none_made (Some e) = refl
+  allowed_make reply name config true room proper (Some c) = refl
+  allowed_make reply name config false room proper (Some c) = refl
 
   allowed_drop : (name : Bytes) (c : Option Consumer) → by_name s.consumers name ≡ c → Allowed (drop_effects c)
   allowed_drop name None e = refl
@@ -168,12 +173,13 @@ module _ (s : Stream) (h : IsNumbered s) where
 
   pub allowed_own : (what : What) (room : Bool) → IsProperWhat what → Allowed (own_effects s what room)
   allowed_own (Make reply config) room g = refl
-  allowed_own (Change reply config) room g = only_if _ (ChangeStream config) (λ e. g)
+  allowed_own (Change reply config) true g = only_if _ (ChangeStream config) (λ e. g)
+  allowed_own (Change reply config) false g = refl
   allowed_own (DropStream reply) room g = refl
   allowed_own (PublishIt p) room g = allowed_publish p room g (verdict s p room) refl
   allowed_own (Purge reply pattern below keep) room g = allowed_removals (s.last + 1) [] s.messages _ h.sound.messages end
   allowed_own (Delete reply n) room g = allowed_delete (message_at s n)
-  allowed_own (MakeConsumer reply name config update) room g = allowed_make reply name config update g (by_name s.consumers name)
+  allowed_own (MakeConsumer reply name config update) room g = allowed_make reply name config update room g (by_name s.consumers name)
   allowed_own (DropConsumer reply name) room g = allowed_drop name (by_name s.consumers name) refl
   allowed_own (AckIt reply ack) room g = allowed_ack ack.consumer ack.seq ack.kind (ltb-true ack.seq (2 ^ 62) (and_parts _ _ (and_parts _ _ g).0).1) (by_name s.consumers ack.consumer) refl
   allowed_own (PullIt reply name ask) room g = refl

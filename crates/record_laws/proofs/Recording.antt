@@ -32,7 +32,7 @@ use Rattle.model_laws.proofs.SoundSent.{IsDeliverable, deliverable}
 use Rattle.model_laws.proofs.SoundTime.{sound_time}
 use Rattle.effects.specs.declared.effect.Effect.TheVariants.{MakeStream, Deliver}
 use Rattle.effects.specs.TimeEffects.{time_effects}
-use Rattle.effects.specs.Effects.{own_effects, skipped, settle_effects, live_effects, vacant_effects, sent_effects}
+use Rattle.effects.specs.Effects.{own_effects, skipped, settle_effects, live_effects, stream_effects, vacant_effects, sent_effects}
 use Rattle.op_records.specs.Allowed.{is_record}
 use Rattle.record_laws.specs.Laws.{LawEventRecords, LawDeliveryRecords}
 use Rattle.record_laws.proofs.Allowing.{Allowed, together, just, number, consumer_name}
@@ -86,33 +86,34 @@ allowed_live a what room g h =
     together (own_effects a what room) _ (allowed_own a h what room g)
     (allowed_left (skipped a what room) (stream_answer a what room).state (at_answer IsProperWhat ⊤ IsSoundStream sound_fact a what room g h.sound) (change_answer IsProperWhat ⊤ HasLast last_change a what room g h.last))
 
-allowed_vacant : (i : ℕ) (what : What) (now : ℕ) → i < 2 ^ 62 → now < 2 ^ 62 → IsProperWhat what → Allowed (vacant_effects i what now)
-allowed_vacant i (Make reply config) now l m g = go (i + 1 == 2 ^ 62) refl
+allowed_vacant : (i : ℕ) (what : What) (now : ℕ) (room : Bool) → i < 2 ^ 62 → now < 2 ^ 62 → IsProperWhat what → Allowed (vacant_effects i what now room)
+allowed_vacant i (Make reply config) now room l m g = go (i + 1 == 2 ^ 62) room refl
   where
-    go : (b : Bool) → (i + 1 == 2 ^ 62) ≡ b → Allowed (cond b [] (MakeStream (i + 1) now config ∷ []))
-    go true e = refl
-    go false e = let free : i + 1 ≢ 2 ^ 62 = eqb-false (i + 1) (2 ^ 62) e in just (MakeStream (i + 1) now config) (and_from _ _ (and_from _ _ (number (i + 1) (omega arith)) (number now m)) g)
-allowed_vacant i (Change reply config) now l m g = refl
-allowed_vacant i (DropStream reply) now l m g = refl
-allowed_vacant i (PublishIt p) now l m g = refl
-allowed_vacant i (Purge reply pattern below keep) now l m g = refl
-allowed_vacant i (Delete reply n) now l m g = refl
-allowed_vacant i (MakeConsumer reply name config update) now l m g = refl
-allowed_vacant i (DropConsumer reply name) now l m g = refl
-allowed_vacant i (AckIt reply ack) now l m g = refl
-allowed_vacant i (PullIt reply name ask) now l m g = refl
-allowed_vacant i Tick now l m g = refl
-allowed_vacant i (AskStream reply) now l m g = refl
-allowed_vacant i (MessageGet reply by) now l m g = refl
-allowed_vacant i (AskConsumer reply name) now l m g = refl
-allowed_vacant i (ConsumerNames reply offset) now l m g = refl
-allowed_vacant i (ConsumerList reply offset) now l m g = refl
+    go : (b room : Bool) → (i + 1 == 2 ^ 62) ≡ b → Allowed (cond b [] (stream_effects i config now room))
+    go true room e = refl
+    go false false e = refl
+    go false true e = let free : i + 1 ≢ 2 ^ 62 = eqb-false (i + 1) (2 ^ 62) e in just (MakeStream (i + 1) now config) (and_from _ _ (and_from _ _ (number (i + 1) (omega arith)) (number now m)) g)
+allowed_vacant i (Change reply config) now room l m g = refl
+allowed_vacant i (DropStream reply) now room l m g = refl
+allowed_vacant i (PublishIt p) now room l m g = refl
+allowed_vacant i (Purge reply pattern below keep) now room l m g = refl
+allowed_vacant i (Delete reply n) now room l m g = refl
+allowed_vacant i (MakeConsumer reply name config update) now room l m g = refl
+allowed_vacant i (DropConsumer reply name) now room l m g = refl
+allowed_vacant i (AckIt reply ack) now room l m g = refl
+allowed_vacant i (PullIt reply name ask) now room l m g = refl
+allowed_vacant i Tick now room l m g = refl
+allowed_vacant i (AskStream reply) now room l m g = refl
+allowed_vacant i (MessageGet reply by) now room l m g = refl
+allowed_vacant i (AskConsumer reply name) now room l m g = refl
+allowed_vacant i (ConsumerNames reply offset) now room l m g = refl
+allowed_vacant i (ConsumerList reply offset) now room l m g = refl
 
 numbered : (s : Stream) → IsSound (Live s) → IsBounded (Live s) → IsNumbered s
 numbered s h b = record { sound = join (Live s) h; last = b.last; moment = b.moment }
 
 pub event_records : LawEventRecords
-event_records (Vacant i) e now room proper l h b = allowed_vacant i e.what now b l (and_parts _ _ proper).1
+event_records (Vacant i) e now room proper l h b = allowed_vacant i e.what now room b l (and_parts _ _ proper).1
 event_records (Live s) e now room proper l h b =
     let k = numbered s h b in
     together (time_effects s now) _ (allowed_time s now l k) (allowed_live (advance s now) e.what room (and_parts _ _ proper).1 (numbered_at s now l k))

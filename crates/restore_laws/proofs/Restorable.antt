@@ -52,7 +52,7 @@ state_again (Live s) = ap Live (settled_again s)
 
 event_settles : (count : ℕ) (old new : State) (e : Event) (now : ℕ) (reply : Reply) (outs : List Out) → IsStep count old e now reply outs new → IsSettled new
 unfolding answered
-event_settles count (Vacant i) new e now reply outs x = subst IsSettled (ap (λ (a : Answer). a.state) x.event.answers) (state_again (vacant_answer i e.what now).state)
+event_settles count (Vacant i) new e now reply outs x = subst IsSettled (ap (λ (a : Answer). a.state) x.event.answers) (state_again (vacant_answer i e.what now x.event.room).state)
 event_settles count (Live s) new e now reply outs x = subst IsSettled (ap (λ (a : Answer). a.state) x.event.answers) (state_again (stream_answer (advance s now) e.what x.event.room).state)
 
 pub restorable_event : LawRestorableEvent

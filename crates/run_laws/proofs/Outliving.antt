@@ -11,6 +11,7 @@ use Rattle.place_engine.specs.declared.faults.OpenFault.{OpenFault}
 use Rattle.place_engine.specs.declared.faults.PlaceFault.{PlaceFault}
 use Rattle.place_engine.specs.Opening.{AllHold}
 use Rattle.place_engine.specs.Stepping.{Image, Seen}
+use Rattle.place_engine.specs.Preparing.{RoomCauses}
 use Rattle.js_api.specs.Worlds.{Scene}
 use Rattle.crash_laws.specs.Laws.{LawMore, LawOpened}
 use Rattle.crash_laws.specs.Opened as opened_at
@@ -70,10 +71,10 @@ none_failed from (Some (Ok done) ∷ more) zero told h e = subst IsNoFailure (sa
 none_failed from (Some (Ok done) ∷ more) (suc n) told h e = none_failed (from + 1) more n told h e
 none_failed from (Some (Err fault) ∷ more) n told h e = absurd (cc)
 
-module _ {P V : Type 0} (seen : P → Seen) (vol : P → V) (holds : Image → State → Type 0) (reads : V → Image → Type 0) (left : V → ℕ → Image → Type 0) (clock faults : V → ℕ)
+module _ {P V : Type 0} (seen : P → Seen) (vol : P → V) (holds : Image → State → Type 0) (reads : V → Image → Type 0) (left : V → ℕ → Image → Type 0) (clock faults : V → ℕ) (causes : RoomCauses V)
     (base : Option ℕ → V → State → Type 0) (opens : V → State → Type 0) (refuses : V → OpenFault → Type 0) (keeps : V → V → Type 0) where
   abbrev OpensOn : V → P → Type 0
-  OpensOn = opening.OpensOn seen vol holds reads left clock faults base opens refuses keeps
+  OpensOn = opening.OpensOn seen vol holds reads left clock faults causes base opens refuses keeps
 
   abbrev place_of : P → PlaceIn
   place_of p = (seen p).place
@@ -92,7 +93,7 @@ module _ {P V : Type 0} (seen : P → Seen) (vol : P → V) (holds : Image → S
   flushed_so p (Some (Err fault)) end h sound going = absurd sound
 
   module _ (more : LawMore holds left clock base) (law : LawOpened holds left clock base) where
-    pub outlives : LawRunOutlives seen vol holds reads left clock faults base opens refuses keeps
+    pub outlives : LawRunOutlives seen vol holds reads left clock faults causes base opens refuses keeps
     outlives stream status v0 v1 old new run number before opened there is =
         let o = run.opens in
         let entries = run_entries run.desk.scene.world.places stream run.after.scene run.outcome.status old (record new { sink = run.sink }) run.attended.attends in

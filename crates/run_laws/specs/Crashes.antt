@@ -8,6 +8,7 @@ use Rattle.place_engine.specs.declared.faults.OpenFault.{OpenFault}
 use Rattle.place_engine.specs.declared.faults.PlaceFault.{PlaceFault}
 use Rattle.place_engine.specs.Opening.{AllHold}
 use Rattle.place_engine.specs.Stepping.{Image, Seen}
+use Rattle.place_engine.specs.Preparing.{RoomCauses}
 use Rattle.js_api.specs.Entries.{DeskEntry}
 use Rattle.crash_laws.specs.Beginnings.{IsLastingOf}
 use Rattle.crash_laws.specs.Timed.{timed_at}
@@ -17,8 +18,8 @@ use Rattle.server.specs.Kinds.{EndsAttended, EndsStarved, EndsUnopened}
 use Rattle.server.specs.Outside.{Outside}
 
 -- Of a kind of place: what contracts see of it, its volume, which state an image holds, what reads of a volume give and what a crash may have left of it, its
--- moment and its faults, which states it may hold, to which states a place may be opened on it and why not, and what a call may make of it.
-module _ {P V : Type 0} (seen : P → Seen) (vol : P → V) (holds : Image → State → Type 0) (reads : V → Image → Type 0) (left : V → ℕ → Image → Type 0) (clock faults : V → ℕ)
+-- moment, its faults and why there may be no room, which states it may hold, to which states a place may be opened on it and why not, and what a call may make of it.
+module _ {P V : Type 0} (seen : P → Seen) (vol : P → V) (holds : Image → State → Type 0) (reads : V → Image → Type 0) (left : V → ℕ → Image → Type 0) (clock faults : V → ℕ) (causes : RoomCauses V)
     (base : Option ℕ → V → State → Type 0) (opens : V → State → Type 0) (refuses : V → OpenFault → Type 0) (keeps : V → V → Type 0) where
   -- Of a place that was opened in this state on a volume, and stands in that one at the end of the run, with its volume then: if the volume held all of what
   -- it was opened to, then each image of a crash at some moment since the run began holds what outlives a crash of the state behind a beginning of what was
@@ -40,7 +41,7 @@ module _ {P V : Type 0} (seen : P → Seen) (vol : P → V) (holds : Image → S
 
   -- so it is with each place of a run
   abbrev pub LawRunOutlives : Type 0
-  LawRunOutlives = (stream : Option NamedStream) (status : ℕ) (vols_old vols_new : List V) (old new : Outside) (run : EndsAttended seen vol holds reads left clock faults base opens refuses keeps stream status vols_old vols_new old new)
+  LawRunOutlives = (stream : Option NamedStream) (status : ℕ) (vols_old vols_new : List V) (old new : Outside) (run : EndsAttended seen vol holds reads left clock faults causes base opens refuses keeps stream status vols_old vols_new old new)
       (number : ℕ) (before : V) (opened : PlaceIn) → slice_get vols_old number ≡ Some before → slice_get run.desk.scene.world.places number ≡ Some opened
       → PlaceOutlives (run_entries run.desk.scene.world.places stream run.after.scene run.outcome.status old (record new { sink = run.sink }) run.attended.attends)
       number before opened.state run.after.scene.world.places vols_new run.closed.failed
@@ -62,4 +63,4 @@ module _ {P V : Type 0} (seen : P → Seen) (vol : P → V) (holds : Image → S
   -- so it is with each volume of a run that ended with status 4 or 5 since no desk was opened, or for want of memory
   abbrev pub LawUnopenedHolds : Type 0
   LawUnopenedHolds = (status : ℕ) (vols_old vols_new : List V) (old new : Outside)
-      → EndsStarved seen vol holds reads left clock faults base opens refuses keeps status vols_old vols_new old new ⊎ EndsUnopened seen vol holds reads left clock faults base opens refuses keeps status vols_old vols_new old new → AllZip StillHolds vols_old vols_new
+      → EndsStarved seen vol holds reads left clock faults causes base opens refuses keeps status vols_old vols_new old new ⊎ EndsUnopened seen vol holds reads left clock faults causes base opens refuses keeps status vols_old vols_new old new → AllZip StillHolds vols_old vols_new

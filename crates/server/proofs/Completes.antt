@@ -47,13 +47,16 @@ use Rattle.server.specs.declared.words.NamedStream.{NamedStream}
 use Rattle.server.specs.Outside.{DoorTold, SinkTold, Outside}
 use Rattle.server.specs.Accepting.{IsQuiet}
 use Rattle.server.specs.Preparing.{Prepares}
+use Rattle.server.specs.Attending.{prepared_entries, run_entries, session_entries}
 use Rattle.server.specs.Running.{pipe_limits, status_of, IsUnserved, WasClosed, HasFailed, WasQuiet, HasStarved, WasUnasked, Waits, Unmakes, Attends, Unmade, Awaited}
 use Rattle.server.specs.Closing.{flush_status, status_with, closing_status}
 use Rattle.server.specs.Ending.{Starved, Unopened, Attended}
-use Rattle.server.specs.Laws.{IsSound, IsValid, piece_of, bytes_of, ops_of, IsWelcome, AreUntroubled, IsFlushed, IsCalmSession, IsCalmWait, IsCalmOver, IsAnswered, AreAnsweredAt, AreAnsweredOver, LawComplete}
+use Rattle.server.specs.Laws.{IsSound, IsValid, piece_of, bytes_of, ops_of, HadRoom, IsWelcome, AreUntroubled, IsFlushed, IsCalmSession, IsCalmWait, IsCalmOver, IsAnswered, AreAnsweredAt, AreAnsweredOver, LawComplete}
 use Rattle.server.proofs.Whole.{none_partial, fronts_on, Leaves, leaves, leaves_none, leaves_sound, idle_sound}
 use Rattle.server.proofs.Taken.{answers_in, ops_in, acts-append, front_ops, Taken, taken}
-use Rattle.server.proofs.Untroubled.{AreFit, run_fit, unbroken, fit_front, fit_behind}
+use Rattle.server.proofs.Led.{prepared_led, session_led}
+use Rattle.server.proofs.Roomy.{room_behind, run_roomy, unbroken, whole_of}
+use Rattle.server.proofs.Untroubled.{AreFit, run_fit, fit_front, fit_behind}
 use Rattle.server.proofs.Numbered.{NoWorn, IsNumbered, does_keeps, makes_stream_keeps}
 use Rattle.server.proofs.Slowed.{never_slow, does_slow}
 use Rattle.server.proofs.Opened.{prepared_latest, is_not_worn}
@@ -368,8 +371,8 @@ unwritten cause ended (inr h) k = h
 -- ---- the session
 
 module _ (input : Bytes) (ops : List Op) (valid : IsValid input ops) (scene new : Scene) (journal : Journal) (risen : ℕ)
-    (calm : IsCalmSession input scene journal risen) (led : Leads SoloStep scene (entries_of journal) new) (untroubled : AreUntroubled new.world) (fresh : scene.world.router.latest ≡ 0)
-    (written : Bytes) (ended : Ended) where
+    (calm : IsCalmSession input scene journal risen) (led : Leads SoloStep scene (entries_of journal) new) (untroubled : AreUntroubled new.world) (room : HadRoom scene.world.places (entries_of journal) new.world.places)
+    (fresh : scene.world.router.latest ≡ 0) (written : Bytes) (ended : Ended) where
   abbrev Outcome : Type 0
   Outcome = ((ended ≡ ends.Closed) × IsAnswered ops journal written) ⊎ talk.IsUnwritten ended
 
@@ -389,7 +392,8 @@ module _ (input : Bytes) (ops : List Op) (valid : IsValid input ops) (scene new 
           said = h.said;
           turns = h.turns;
           all = all;
-          unbroken = unbroken (entries_of journal) (run_fit scene new (entries_of journal) led untroubled);
+          unbroken = unbroken (entries_of journal)
+              (whole_of (entries_of journal) (run_fit scene new (entries_of journal) led untroubled) (run_roomy scene new (entries_of journal) led room));
           written = h.written ∙ ap (λ (last : Last). talk.before_last front last h.said ++ h.more) last_is
               ∙ ap (λ (bytes : Bytes). (front ++ h.said) ++ bytes) none ∙ append-nil (front ++ h.said);
         },
@@ -463,13 +467,14 @@ statused ended status P (inr (inl h)) e sound = absurd (sound (e ∙ ap status_o
 statused ended status P (inr (inr h)) e sound = inr (e ∙ ap status_of h)
 
 waited : (scene after : Scene) (status : ℕ) (old new : DoorTold) (c0 c1 : Option (List ℕ)) (waits : Waits scene after status old new c0 c1) (input : Bytes) (ops : List Op)
-    → scene.world.router.latest ≡ 0 → AreUntroubled after.world → IsValid input ops → IsCalmWait input waits → ((status ≡ 0) × AreAnsweredAt ops waits) ⊎ (status ≡ 7)
-waited scene after status old new c0 c1 (inl none) input ops fresh untroubled valid calm = unserved status old new none.unserved calm.0 calm.1
-waited scene after status old new c0 c1 (inr link) input ops fresh untroubled valid calm =
+    → scene.world.router.latest ≡ 0 → AreUntroubled after.world → HadRoom scene.world.places (session_entries scene after status old new c0 c1 waits) after.world.places
+    → IsValid input ops → IsCalmWait input waits → ((status ≡ 0) × AreAnsweredAt ops waits) ⊎ (status ≡ 7)
+waited scene after status old new c0 c1 (inl none) input ops fresh untroubled room valid calm = unserved status old new none.unserved calm.0 calm.1
+waited scene after status old new c0 c1 (inr link) input ops fresh untroubled room valid calm =
     let served = link.given_back.served in
     let journal = served.journal in
     let risen = link.given_back.report.faults in
-    let so = outcome input ops valid scene after journal risen calm served.led untroubled fresh served.bytes served.ended served.talk in
+    let so = outcome input ops valid scene after journal risen calm served.led untroubled room fresh served.bytes served.ended served.talk in
     statused served.ended status (IsAnswered ops journal served.bytes) so served.status_is (λ three. not_rose risen calm.unfailed (served.cause three))
 
 -- ---- the stream
@@ -487,22 +492,29 @@ made_numbered opened (Some stream) result c0 c1 after h u =
     makes_stream_keeps stream.name (default_config stream.name stream.subject) h.moment result h.entries h.makes (run_fit (opening opened) after h.entries h.led u)
 
 not_welcome : (opened : List PlaceIn) (stream : Option NamedStream) (error : ApiError) (c0 c1 : Option (List ℕ)) (after : Scene)
-    → Prepares opened stream (Ok (Some error)) c0 c1 after → IsWelcome opened stream → AreUntroubled after.world → ⊥
-not_welcome opened None error c0 c1 after h w u = let clash = h.0 in cc
-not_welcome opened (Some stream) error c0 c1 after h w u = w error c0 c1 after h u
+    → (h : Prepares opened stream (Ok (Some error)) c0 c1 after) → IsWelcome opened stream → AreUntroubled after.world
+    → HadRoom opened (prepared_entries opened stream (Ok (Some error)) c0 c1 after h) after.world.places → ⊥
+not_welcome opened None error c0 c1 after h w u room = let clash = h.0 in cc
+not_welcome opened (Some stream) error c0 c1 after h w u room = w error c0 c1 after h u room
 
 unmade : (opened : List PlaceIn) (stream : Option NamedStream) (result : Result (Option ApiError) DeskFault) (c0 c1 : Option (List ℕ)) (after : Scene) (status : ℕ) (old new : SinkTold)
-    → Prepares opened stream result c0 c1 after → Unmakes result status old new → IsWelcome opened stream → AreUntroubled after.world → status ≡ 7
-unmade _ stream (Ok None) c0 c1 after status old new h m w u = absurd m
-unmade opened stream (Ok (Some error)) c0 c1 after status old new h m w u = absurd (not_welcome opened stream error c0 c1 after h w u)
-unmade opened stream (Err fault) c0 c1 after status old new h m w u = made_fault fault status m (made_numbered opened stream (Err fault) c0 c1 after h u)
+    → (h : Prepares opened stream result c0 c1 after) → Unmakes result status old new → IsWelcome opened stream → AreUntroubled after.world
+    → HadRoom opened (prepared_entries opened stream result c0 c1 after h) after.world.places → status ≡ 7
+unmade _ stream (Ok None) c0 c1 after status old new h m w u room = absurd m
+unmade opened stream (Ok (Some error)) c0 c1 after status old new h m w u room = absurd (not_welcome opened stream error c0 c1 after h w u room)
+unmade opened stream (Err fault) c0 c1 after status old new h m w u room = made_fault fault status m (made_numbered opened stream (Err fault) c0 c1 after h u)
 
 attended : (opened : List PlaceIn) (stream : Option NamedStream) (after : Scene) (status : ℕ) (old new : Outside) (attends : Attends opened stream after status old new) (input : Bytes) (ops : List Op)
-    → IsWelcome opened stream → AreUntroubled after.world → IsValid input ops → IsCalmOver input attends → ((status ≡ 0) × AreAnsweredOver ops attends) ⊎ (status ≡ 7)
-attended opened stream after status old new (Unmade h) input ops welcome untroubled valid calm =
-    inr (unmade opened stream h.result old.clock new.clock after status old.sink new.sink h.prepared h.unmade welcome untroubled)
-attended opened stream after status old new (Awaited h) input ops welcome untroubled valid calm =
-    waited h.scene after status old.door new.door h.rest new.clock h.waits input ops (prepared_latest opened stream (Ok None) old.clock h.rest h.scene h.prepared) untroubled valid calm
+    → IsWelcome opened stream → AreUntroubled after.world → HadRoom opened (run_entries opened stream after status old new attends) after.world.places → IsValid input ops → IsCalmOver input attends
+    → ((status ≡ 0) × AreAnsweredOver ops attends) ⊎ (status ≡ 7)
+attended opened stream after status old new (Unmade h) input ops welcome untroubled room valid calm =
+    inr (unmade opened stream h.result old.clock new.clock after status old.sink new.sink h.prepared h.unmade welcome untroubled room)
+attended opened stream after status old new (Awaited h) input ops welcome untroubled room valid calm =
+    let first = prepared_entries opened stream (Ok None) old.clock h.rest h.scene h.prepared in
+    let more = session_entries h.scene after status old.door new.door h.rest new.clock h.waits in
+    let left = room_behind (opening opened) h.scene after first more (prepared_led opened stream (Ok None) old.clock h.rest h.scene h.prepared)
+    (session_led h.scene after status old.door new.door h.rest new.clock h.waits) room in
+    waited h.scene after status old.door new.door h.rest new.clock h.waits input ops (prepared_latest opened stream (Ok None) old.clock h.rest h.scene h.prepared) untroubled left valid calm
 
 -- ---- the closing
 
@@ -530,5 +542,5 @@ module _ {V : Type 0} (Opens : List V → Solo V → Type 0) (Refuses : List V �
   complete stream status v0 v1 old new input ops may welcome valid calm (Attended h) untroubled =
       let attends = h.attended.attends in
       let opened = h.desk.scene.world.places in
-      settled h.outcome.served h.outcome.status status h.closed.failed (AreAnsweredOver ops attends) untroubled.1 h.status_is
-      (attended opened stream h.after.scene h.outcome.status old (record new { sink = h.sink }) attends input ops (welcome h.desk h.opens) untroubled.0 valid (calm h untroubled.0))
+      settled h.outcome.served h.outcome.status status h.closed.failed (AreAnsweredOver ops attends) untroubled.2 h.status_is
+      (attended opened stream h.after.scene h.outcome.status old (record new { sink = h.sink }) attends input ops (welcome h.desk h.opens) untroubled.0 untroubled.1 valid (calm h untroubled.0))

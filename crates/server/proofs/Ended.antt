@@ -1,6 +1,6 @@
 -- Laws of the status of a run, and of what is printed with it.
-use Rattle.std.proofs.Common.{◌≡◌, ◌==◌, ◌&&◌, ℕ, Bool, true, false, List, Option, None, Some, arith, refl, sym, ◌∙◌, subst}
-use Rattle.std.specs.Prelude.{◌↔◌, IfSome, if◌then◌else◌}
+use Rattle.std.proofs.Common.{◌≡◌, ◌==◌, ◌&&◌, ℕ, Bool, true, false, List, Option, None, Some, arith, refl, sym, ◌∙◌}
+use Rattle.std.specs.Prelude.{if◌then◌else◌}
 use Rattle.std.proofs.lemmas.Bool.{eqb-true}
 use Rattle.place_engine.specs.declared.faults.OpenFault.{OpenFault}
 use Rattle.place_engine.specs.declared.faults.OpenFault.TheVariants as opening
@@ -27,6 +27,7 @@ open_other : (fault : OpenFault) → open_status fault ≡ 2 → ⊥
 open_other opening.Fault e = cc
 open_other (opening.Damaged file at) e = cc
 open_other (opening.UnknownVersion version) e = cc
+open_other opening.NoRoom e = cc
 open_other opening.NoMemory e = cc
 
 pub refused_other : {V : Type 0} (fault : HubFault V) → refused_status fault ≡ 2 → ⊥
@@ -39,6 +40,7 @@ open_unprinted : (place : ℕ) (fault : OpenFault) (old new : SinkTold) → Prin
 open_unprinted place opening.Fault old new h four five = absurd (four refl)
 open_unprinted place (opening.Damaged file at) old new h four five = absurd (five refl)
 open_unprinted place (opening.UnknownVersion version) old new h four five = absurd (five refl)
+open_unprinted place opening.NoRoom old new h four five = absurd (four refl)
 open_unprinted place opening.NoMemory old new h four five = h
 
 pub refused_unprinted : {V : Type 0} (fault : HubFault V) (old new : SinkTold) → PrintsLine (refused_line fault) old new → (refused_status fault ≡ 4 → ⊥) → (refused_status fault ≡ 5 → ⊥) → new ≡ old
@@ -51,7 +53,6 @@ refused_unprinted (hubs.NoMemory vols) old new h four five = h
 flushed_other : (fault : PlaceFault) → flush_status fault ≡ 2 → ⊥
 flushed_other (faults.NoMemory left) e = cc
 flushed_other faults.StoreFault e = cc
-flushed_other faults.Full e = cc
 flushed_other (faults.Stopped count) e = cc
 flushed_other (faults.Gone kept) e = cc
 flushed_other (faults.Worn refused) e = cc
@@ -96,7 +97,6 @@ refused_closing served talked (Some failed) e = first (talked == 0) e
     never : (fault : PlaceFault) → flush_status fault ≡ 11 → ⊥
     never (faults.NoMemory left) k = cc
     never faults.StoreFault k = cc
-    never faults.Full k = cc
     never (faults.Stopped count) k = cc
     never (faults.Gone kept) k = cc
     never (faults.Worn refused) k = cc

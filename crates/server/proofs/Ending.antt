@@ -29,7 +29,7 @@ use Rattle.server.specs.declared.words.NamedStream.{NamedStream}
 use Rattle.server.specs.Lines.{number_line}
 use Rattle.server.specs.Outside.{DoorTold, SinkTold, Outside, Prints}
 use Rattle.server.specs.Accepting.{IsAccepted, IsQuiet, NoneStarves, OneStarves}
-use Rattle.server.specs.Running.{IsUnserved, WasClosed, HasFailed, WasQuiet, HasStarved, WasUnasked, Waits, Unmakes, Attends, Unmade, Awaited, IsUnmade, is_session, pipe_limits, status_of}
+use Rattle.server.specs.Running.{IsUnserved, WasClosed, HasFailed, WasQuiet, HasStarved, WasUnasked, Waits, Unmakes, Attends, Unmade, Awaited, is_session, pipe_limits, status_of}
 use Rattle.server.specs.Attending.{IsPrepared, IsServedOver, IsAwaitedOver, IsAttendedOver}
 use Rattle.server.specs.declared.serving.Outcome.{Outcome}
 use Rattle.server.proofs.Arriving.{told_whole}
@@ -37,9 +37,9 @@ use Rattle.server.proofs.Arriving.{told_whole}
 -- ---- the status
 
 -- it is neither that of a command line of another form, nor that of a stream that was refused
-record IsOther (status : ℕ) : Type 0 where
-  words : status ≡ 2 → ⊥
-  stream : status ≡ 11 → ⊥
+pub record IsOther (status : ℕ) : Type 0 where
+  pub words : status ≡ 2 → ⊥
+  pub stream : status ≡ 11 → ⊥
 
 ended_other : (ended : Ended) → IsOther (status_of ended)
 ended_other ends.Closed = record { words = λ e. cc; stream = λ e. cc }
@@ -57,7 +57,7 @@ unserved_other status old new (WasQuiet s a n) = record { words = λ e. omega (a
 unserved_other status old new (HasStarved s a n) = record { words = λ e. omega (arith, s, e); stream = λ e. omega (arith, s, e) }
 unserved_other status old new (WasUnasked s a n) = record { words = λ e. omega (arith, s, e); stream = λ e. omega (arith, s, e) }
 
-waits_other : (scene after : Scene) (status : ℕ) (old new : DoorTold) (c0 c1 : Option (List ℕ)) → Waits scene after status old new c0 c1 → IsOther status
+pub waits_other : (scene after : Scene) (status : ℕ) (old new : DoorTold) (c0 c1 : Option (List ℕ)) → Waits scene after status old new c0 c1 → IsOther status
 waits_other scene after status old new c0 c1 (inl h) = unserved_other status old new h.unserved
 waits_other scene after status old new c0 c1 (inr h) =
     subst IsOther (sym h.given_back.served.status_is) (ended_other h.given_back.served.ended)
@@ -79,19 +79,10 @@ pub record IsRefusal (result : Result (Option ApiError) DeskFault) : Type 0 wher
   pub error : ApiError
   pub is : result ≡ Ok (Some error)
 
-unmade_refusal : (result : Result (Option ApiError) DeskFault) (status : ℕ) (old new : SinkTold) → Unmakes result status old new → status ≡ 11 → IsRefusal result
+pub unmade_refusal : (result : Result (Option ApiError) DeskFault) (status : ℕ) (old new : SinkTold) → Unmakes result status old new → status ≡ 11 → IsRefusal result
 unmade_refusal (Ok None) status old new h e = absurd h
 unmade_refusal (Ok (Some error)) status old new h e = record { error = error; is = refl }
 unmade_refusal (Err fault) status old new h e = absurd ((ended_other (end_of_fault fault)).stream (sym h ∙ e))
-
-pub record WasRefused (opened : List PlaceIn) (stream : Option NamedStream) (after : Scene) (status : ℕ) (old new : Outside) : Type 0 where
-  pub unmade : IsUnmade opened stream after status old new
-  pub refusal : IsRefusal unmade.result
-
-pub attends_refused : (opened : List PlaceIn) (stream : Option NamedStream) (after : Scene) (status : ℕ) (old new : Outside) → Attends opened stream after status old new → status ≡ 11
-    → WasRefused opened stream after status old new
-attends_refused opened stream after status old new (Unmade h) e = record { unmade = h; refusal = unmade_refusal h.result status old.sink new.sink h.unmade e }
-attends_refused opened stream after status old new (Awaited h) e = absurd ((waits_other h.scene after status old.door new.door h.rest new.clock h.waits).stream e)
 
 -- no session was served then
 pub unserved_refused : (opened : List PlaceIn) (stream : Option NamedStream) (after : Scene) (status : ℕ) (old new : Outside) (attends : Attends opened stream after status old new) → status ≡ 11 → is_session attends ≡ false

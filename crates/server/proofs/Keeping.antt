@@ -5,6 +5,7 @@ use Rattle.js_model.specs.declared.stream.State.{State}
 use Rattle.place_engine.specs.declared.faults.OpenFault.{OpenFault}
 use Rattle.place_engine.specs.declared.faults.PlaceFault.{PlaceFault}
 use Rattle.place_engine.specs.Stepping.{Image, Seen}
+use Rattle.place_engine.specs.Preparing.{RoomCauses}
 use Rattle.desk_places.specs.Closing as closing
 use Rattle.desk_places.specs.Closing.{End}
 use Rattle.js_desk.specs.Kept.{kept_more, kept_none}
@@ -13,11 +14,11 @@ use Rattle.server.specs.Ending.{Starved, Unopened, Attended}
 use Rattle.server.specs.Keeping.{LawKept}
 use Rattle.server.proofs.Rows.{opened_row, unopened_row}
 
-module _ {P V : Type 0} (seen : P → Seen) (vol : P → V) (holds : Image → State → Type 0) (reads : V → Image → Type 0) (left : V → ℕ → Image → Type 0) (clock faults : V → ℕ)
+module _ {P V : Type 0} (seen : P → Seen) (vol : P → V) (holds : Image → State → Type 0) (reads : V → Image → Type 0) (left : V → ℕ → Image → Type 0) (clock faults : V → ℕ) (causes : RoomCauses V)
     (base : Option ℕ → V → State → Type 0) (opens : V → State → Type 0) (refuses : V → OpenFault → Type 0) (keeps : V → V → Type 0)
     (none : (v : V) → keeps v v) (more : (a b c : V) → keeps a b → keeps b c → keeps a c) where
   abbrev OpensOn : V → P → Type 0
-  OpensOn = opening.OpensOn seen vol holds reads left clock faults base opens refuses keeps
+  OpensOn = opening.OpensOn seen vol holds reads left clock faults causes base opens refuses keeps
 
   abbrev EndsSo : P → Option (Result (Unit {0}) PlaceFault) → V → Type 0
   EndsSo = closing.EndsSo seen vol holds reads left clock base keeps
@@ -36,13 +37,13 @@ module _ {P V : Type 0} (seen : P → Seen) (vol : P → V) (holds : Image → S
   kept_ends (p ∷ row) [] h = absurd h
   kept_ends (p ∷ row) (e ∷ ends) h = (kept_end p e.told e.vol h.0.ends, kept_ends row ends h.1)
 
-  pub kept : LawKept seen vol holds reads left clock faults base opens refuses keeps
+  pub kept : LawKept seen vol holds reads left clock faults causes base opens refuses keeps
   kept stream status v0 v1 old new (Starved h) = subst (λ (vs : List V). AllZip keeps v0 vs) (sym h.vols) (kept_none keeps none v0)
-  kept stream status v0 v1 old new (Unopened h) = subst (λ (vs : List V). AllZip keeps v0 vs) (sym h.vols) (unopened_row seen vol holds reads left clock faults base opens refuses keeps keeps none (λ v p o. o.volume) (λ v w fault r. r.volume) v0 h.fault h.refused)
+  kept stream status v0 v1 old new (Unopened h) = subst (λ (vs : List V). AllZip keeps v0 vs) (sym h.vols) (unopened_row seen vol holds reads left clock faults causes base opens refuses keeps keeps none (λ v p o. o.volume) (λ v w fault r. r.volume) v0 h.fault h.refused)
   kept stream status v0 v1 old new (Attended h) =
       let o = h.opens in
       let c = h.closes in
-      let opened : AllZip keeps v0 h.desk.vols = subst (λ (vs : List V). AllZip keeps v0 vs) (sym o.vols) (opened_row seen vol holds reads left clock faults base opens refuses keeps keeps (λ v p o. o.volume) v0 o.row o.opened) in
+      let opened : AllZip keeps v0 h.desk.vols = subst (λ (vs : List V). AllZip keeps v0 vs) (sym o.vols) (opened_row seen vol holds reads left clock faults causes base opens refuses keeps keeps (λ v p o. o.volume) v0 o.row o.opened) in
       let ended : AllZip keeps h.after.vols h.closed.vols.items =
       subst (λ (vs : List V). AllZip keeps vs h.closed.vols.items) c.before
       (subst (λ (vs : List V). AllZip keeps (map vol c.row) vs) (sym c.closes.after) (kept_ends c.row c.closes.ends c.closes.ended))

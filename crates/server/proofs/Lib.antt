@@ -12,6 +12,9 @@ pub mod Shown
 pub mod Whole
 pub mod Taken
 pub mod Untroubled
+pub mod Rising
+pub mod Roomy
+pub mod Led
 pub mod Numbered
 pub mod Slowed
 pub mod Opened

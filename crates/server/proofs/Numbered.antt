@@ -138,7 +138,7 @@ became_numbered (Made reply) at what now ready fault entries h fit = let k = sub
 became_numbered (Unsaid refused) at what now ready fault entries h fit = let k = subst AreFit h.3 fit in explained fault h.2.unsaid h.0 h.2.explained k.0
 became_numbered Ticked at what now ready fault entries h fit = subst (λ (f : Option DeskFault). IfSome f IsNumbered) (sym h.3) tt
 became_numbered Nothing at what now ready fault entries h fit = unmade_numbered at fault entries h.1 fit
-became_numbered (Broke stream full) at what now ready fault entries h fit = none_numbered fault h.3.1
+became_numbered (Broke stream) at what now ready fault entries h fit = none_numbered fault h.3.1
 became_numbered (Stopped stream) at what now ready fault entries h fit = none_numbered fault h.3.1
 became_numbered Gone at what now ready fault entries h fit = none_numbered fault h.2.1
 
@@ -158,7 +158,7 @@ ended_keeps name to (Made reply) = gives_keeps (one.is_taken reply)
 ended_keeps name to (Unsaid refused) = λ result entries h fit. absurd h
 ended_keeps name to Ticked = λ result entries h fit. absurd h
 ended_keeps name to Nothing = λ result entries h fit. absurd h
-ended_keeps name to (Broke stream full) = answers_keeps _
+ended_keeps name to (Broke stream) = answers_keeps _
 ended_keeps name to (Stopped stream) = answers_keeps _
 ended_keeps name to Gone = answers_keeps _
 
@@ -251,7 +251,7 @@ heard_keeps (Made reply) = gives_keeps (consumers.is_heard reply)
 heard_keeps (Unsaid refused) = λ result entries h fit. absurd h
 heard_keeps Ticked = λ result entries h fit. absurd h
 heard_keeps Nothing = λ result entries h fit. absurd h
-heard_keeps (Broke stream full) = gives_keeps true
+heard_keeps (Broke stream) = gives_keeps true
 heard_keeps (Stopped stream) = gives_keeps true
 heard_keeps Gone = gives_keeps false
 
@@ -335,7 +335,7 @@ reached_keeps message (Made reply) = gives_keeps true
 reached_keeps message (Unsaid refused) = λ result entries h fit. absurd h
 reached_keeps message Ticked = λ result entries h fit. absurd h
 reached_keeps message Nothing = λ result entries h fit. absurd h
-reached_keeps message (Broke stream full) = then_keeps (Sends _) (λ _. Gives true) (sends_keeps _) (λ _. gives_keeps true)
+reached_keeps message (Broke stream) = then_keeps (Sends _) (λ _. Gives true) (sends_keeps _) (λ _. gives_keeps true)
 reached_keeps message (Stopped stream) = then_keeps (Sends _) (λ _. Gives true) (sends_keeps _) (λ _. gives_keeps true)
 reached_keeps message Gone = gives_keeps false
 
@@ -458,7 +458,7 @@ making_keeps (Made reply) = gives_keeps (making.refusal_in reply)
 making_keeps (Unsaid refused) = λ result entries h fit. absurd h
 making_keeps Ticked = λ result entries h fit. absurd h
 making_keeps Nothing = λ result entries h fit. absurd h
-making_keeps (Broke stream full) = gives_keeps _
+making_keeps (Broke stream) = gives_keeps _
 making_keeps (Stopped stream) = gives_keeps _
 making_keeps Gone = λ result entries h fit. absurd h
 

@@ -90,7 +90,7 @@ kept_latest old new (entry ∷ more) h u = kept_latest h.0 new more h.2 u.1 ∙ 
 
 prepares_unrouted : (at : PlaceAt) (entries : List DeskEntry) → Prepares at entries → AreUnrouted entries
 prepares_unrouted at entries (inl e) = none_routed entries e
-prepares_unrouted at entries (inr h) = one_unrouted _ entries tt h.2
+prepares_unrouted at entries (inr h) = one_unrouted _ entries tt h.3
 
 unmade_unrouted : (at : PlaceAt) (fault : Option DeskFault) (entries : List DeskEntry) → Unmakes at fault entries → AreUnrouted entries
 unmade_unrouted at None entries h = absurd h
@@ -106,7 +106,7 @@ became_unrouted (Made reply) at what now ready fault entries h = one_unrouted _ 
 became_unrouted (Unsaid refused) at what now ready fault entries h = one_unrouted _ entries tt h.3
 became_unrouted Ticked at what now ready fault entries h = one_unrouted _ entries tt h.1
 became_unrouted Nothing at what now ready fault entries h = unmade_unrouted at fault entries h.1
-became_unrouted (Broke stream full) at what now ready fault entries h = one_unrouted _ entries tt h.1
+became_unrouted (Broke stream) at what now ready fault entries h = one_unrouted _ entries tt h.1
 became_unrouted (Stopped stream) at what now ready fault entries h = one_unrouted _ entries tt h.1
 became_unrouted Gone at what now ready fault entries h = one_unrouted _ entries tt h.1
 
@@ -120,7 +120,7 @@ free_unrouted at (Unsaid true) = (tt, tt)
 free_unrouted at (Unsaid false) = tt
 free_unrouted at Ticked = (tt, tt)
 free_unrouted at Nothing = (tt, tt)
-free_unrouted at (Broke stream full) = (tt, tt)
+free_unrouted at (Broke stream) = (tt, tt)
 free_unrouted at (Stopped stream) = (tt, tt)
 free_unrouted at Gone = (tt, tt)
 
@@ -129,7 +129,7 @@ made_unrouted (Made reply) result entries h = none_routed entries h.entries_are
 made_unrouted (Unsaid refused) result entries h = absurd h
 made_unrouted Ticked result entries h = absurd h
 made_unrouted Nothing result entries h = absurd h
-made_unrouted (Broke stream full) result entries h = none_routed entries h.entries_are
+made_unrouted (Broke stream) result entries h = none_routed entries h.entries_are
 made_unrouted (Stopped stream) result entries h = none_routed entries h.entries_are
 made_unrouted Gone result entries h = absurd h
 

@@ -10,7 +10,7 @@ use Rattle.js_base.specs.Causes.{HasCause, Rose}
 use Rattle.link_edge.specs.Puts.{Writes}
 use Rattle.link_edge.specs.declared.answers.Put.{Put}
 use Rattle.link_edge.specs.declared.answers.Put.TheVariants as puts
-use Rattle.link_edge.proofs.Causes.{rose_before}
+use Rattle.js_base.proofs.Causes.{rose_before}
 use Rattle.link_edge.proofs.Told.{grown_on}
 use Rattle.server.specs.declared.printing.Part.{Part}
 use Rattle.server.specs.Lines.{part_bytes, line_of}

@@ -4,6 +4,7 @@ use Rattle.std.specs.List.{AllZip}
 use Rattle.js_model.specs.declared.stream.State.{State}
 use Rattle.place_engine.specs.declared.faults.OpenFault.{OpenFault}
 use Rattle.place_engine.specs.Stepping.{Image, Seen}
+use Rattle.place_engine.specs.Preparing.{RoomCauses}
 use Rattle.js_desk.specs.Kept.{kept_none}
 use Rattle.desk_places.specs.Opening as opening
 use Rattle.desk_places.specs.declared.faults.HubFault.{HubFault}
@@ -11,13 +12,13 @@ use Rattle.desk_places.specs.declared.faults.HubFault.TheVariants as hubs
 use Rattle.server.specs.Kinds.{Refuses}
 use Rattle.server.specs.Refusing.{vols_of}
 
-module _ {P V : Type 0} (seen : P → Seen) (vol : P → V) (holds : Image → State → Type 0) (reads : V → Image → Type 0) (left : V → ℕ → Image → Type 0) (clock faults : V → ℕ)
+module _ {P V : Type 0} (seen : P → Seen) (vol : P → V) (holds : Image → State → Type 0) (reads : V → Image → Type 0) (left : V → ℕ → Image → Type 0) (clock faults : V → ℕ) (causes : RoomCauses V)
     (base : Option ℕ → V → State → Type 0) (opens : V → State → Type 0) (refuses : V → OpenFault → Type 0) (keeps : V → V → Type 0) (R : V → V → Type 0) where
   abbrev OpensOn : V → P → Type 0
-  OpensOn = opening.OpensOn seen vol holds reads left clock faults base opens refuses keeps
+  OpensOn = opening.OpensOn seen vol holds reads left clock faults causes base opens refuses keeps
 
   abbrev RefusesOn : V → OpenFault → V → Type 0
-  RefusesOn = opening.RefusesOn seen vol holds reads left clock faults base opens refuses keeps
+  RefusesOn = opening.RefusesOn seen vol holds reads left clock faults causes base opens refuses keeps
 
   pub opened_row : ((v : V) (p : P) → OpensOn v p → R v (vol p)) → (vols : List V) (row : List P) → AllZip OpensOn vols row → AllZip R vols (map vol row)
   opened_row opened [] [] h = tt
@@ -33,7 +34,7 @@ module _ {P V : Type 0} (seen : P → Seen) (vol : P → V) (holds : Image → S
 
   -- of volumes on which no desk was opened
   pub unopened_row : ((v : V) → R v v) → ((v : V) (p : P) → OpensOn v p → R v (vol p)) → ((v w : V) (fault : OpenFault) → RefusesOn v fault w → R v w)
-      → (before : List V) (fault : HubFault V) → Refuses seen vol holds reads left clock faults base opens refuses keeps before fault → AllZip R before (vols_of fault)
+      → (before : List V) (fault : HubFault V) → Refuses seen vol holds reads left clock faults causes base opens refuses keeps before fault → AllZip R before (vols_of fault)
   unopened_row same opened refused before (hubs.Open place fault back) h =
       subst (λ (vs : List V). AllZip R vs back.items) (sym h.before_are)
       (subst (λ (vs : List V). AllZip R (h.first ++ h.at ∷ h.more) vs) (sym h.after_are)

@@ -5,7 +5,7 @@ use Rattle.js_model.specs.PlaceStates.{PlaceIn, VolumeAt}
 use Rattle.js_api.specs.Entries.{DeskEntry, Routed, Looked, Turned, Resumed, Held, Stirred, Halted, Missed, Spent, Hold, Unsent, entries_in}
 use Rattle.js_api.specs.Leading.{Leads}
 use Rattle.js_api.specs.Worlds.{Scene, SoloStep, Stops, IsHeld, is_broken, sending_of}
-use Rattle.server.specs.Laws.{IsUntroubled, AreUntroubled, IsUnbroken, AreUnbroken}
+use Rattle.server.specs.Laws.{IsUntroubled, AreUntroubled}
 
 -- ---- the places, one by one
 
@@ -61,13 +61,13 @@ not_unsent [] number e = cc
 not_unsent (true ∷ more) number e = not_unsent more number e
 not_unsent (false ∷ more) number e = cc
 
-not_broken : (broken full : Bool) (before after : VolumeAt) (stopped : Option ℕ) → Stops broken full before after stopped → stopped ≡ None → broken ≡ false
-not_broken true full before after stopped h e = let clash : Some after.faults ≡ None = sym h.0 ∙ e in cc
-not_broken false full before after stopped h e = refl
+not_broken : (broken : Bool) (before after : VolumeAt) (stopped : Option ℕ) → Stops broken before after stopped → stopped ≡ None → broken ≡ false
+not_broken true before after stopped h e = let clash : Some after.faults ≡ None = sym h.0 ∙ e in cc
+not_broken false before after stopped h e = refl
 
 held_fit : (hold : Hold) (old new : PlaceIn) (taken : List Bool) → IsHeld hold old new → hold.sending ≡ sending_of taken → IsUntroubled new → IsHoldFit hold
 held_fit hold old new taken h s u = record {
-  unbroken = not_broken (is_broken (entries_in hold)) hold.full hold.volume_before hold.volume_after new.stopped h.stops u.going;
+  unbroken = not_broken (is_broken (entries_in hold)) hold.volume_before hold.volume_after new.stopped h.stops u.going;
   sent = λ number e. not_unsent taken number (sym s ∙ e);
   generation = subst (λ (v : VolumeAt). v.generation < 2 ^ 62 - 1) h.volume_is u.generation;
 }
@@ -99,7 +99,7 @@ step_back old new (Stirred at before after failed) h u =
       generation = omega (arith, there.generation, ap (λ (v : VolumeAt). v.generation) i.volume_was, ap (λ (v : VolumeAt). v.generation) i.volume_is, i.later.generations);
     } in (
       changed_before old.world.places at.place a.place a.stirred a.is_there was set,
-      (not_broken failed false before after a.stirred.stopped i.stops there.going, subst (λ (v : VolumeAt). v.generation < 2 ^ 62 - 1) i.volume_is there.generation),
+      (not_broken failed before after a.stirred.stopped i.stops there.going, subst (λ (v : VolumeAt). v.generation < 2 ^ 62 - 1) i.volume_is there.generation),
     )
 step_back old new (Halted at state) h u =
     let halted = h.0 in
@@ -129,21 +129,6 @@ run_fit old new entries h u = (leads_back old new entries h (each_of new.world.p
 -- and none was troubled before
 pub run_before : (old new : Scene) (entries : List DeskEntry) → Leads SoloStep old entries new → AreUntroubled new.world → AreUntroubled old.world
 run_before old new entries h u = all_of old.world.places (leads_back old new entries h (each_of new.world.places u)).0
-
-unbroken_one : (entry : DeskEntry) → IsFit entry → IsUnbroken entry
-unbroken_one (Routed call told) h = tt
-unbroken_one (Looked joined call told) h = tt
-unbroken_one (Turned after found) h = tt
-unbroken_one (Resumed last) h = tt
-unbroken_one (Held hold) h = h.unbroken
-unbroken_one (Stirred at before after failed) h = h.0
-unbroken_one (Halted at state) h = h
-unbroken_one (Missed at kept) h = tt
-unbroken_one (Spent number) h = h
-
-pub unbroken : (entries : List DeskEntry) → AreFit entries → AreUnbroken entries
-unbroken [] h = tt
-unbroken (entry ∷ more) h = (unbroken_one entry h.0, unbroken more h.1)
 
 pub fit_front : (first more : List DeskEntry) → AreFit (first ++ more) → AreFit first
 fit_front [] more h = tt

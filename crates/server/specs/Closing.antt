@@ -5,12 +5,10 @@ use Rattle.place_engine.specs.declared.faults.PlaceFault.{PlaceFault}
 use Rattle.place_engine.specs.declared.faults.PlaceFault.TheVariants as faults
 use Rattle.server.specs.Lines.{disk_fault_line}
 
--- The status of a place that could not be brought to its volume: the store failed, its generations are used up, or memory ran out. A log is too full for
--- what waits only if memory ran out before.
+-- the status of a place that could not be brought to its volume: the store failed, its generations are used up, or memory ran out
 abbrev pub flush_status : PlaceFault → ℕ
 flush_status (faults.NoMemory left) = 7
 flush_status faults.StoreFault = 4
-flush_status faults.Full = 7
 flush_status (faults.Stopped count) = 4
 flush_status (faults.Gone kept) = 4
 flush_status (faults.Worn refused) = 10

@@ -3,6 +3,7 @@ use Rattle.std.specs.Prelude.{ℕ, List, Option}
 use Rattle.js_model.specs.declared.stream.State.{State}
 use Rattle.place_engine.specs.declared.faults.OpenFault.{OpenFault}
 use Rattle.place_engine.specs.Stepping.{Image, Seen}
+use Rattle.place_engine.specs.Preparing.{RoomCauses}
 use Rattle.js_api.specs.Entries.{DeskEntry}
 use Rattle.desk_places.specs.Closing.{Closes}
 use Rattle.desk_places.specs.Opening.{FailsToOpen}
@@ -15,20 +16,20 @@ use Rattle.server.specs.Ending.{IsStarved, IsUnopened, IsAttended, PipeEnds}
 use Rattle.server.specs.Outside.{Outside}
 
 -- Of a kind of place: what contracts see of it, its volume, which state an image holds, what reads of a volume give and what a crash may have left of it, its
--- moment and its faults, which states it may hold, to which states a place may be opened on it and why not, and what a call may make of it.
-module _ {P V : Type 0} (seen : P → Seen) (vol : P → V) (holds : Image → State → Type 0) (reads : V → Image → Type 0) (left : V → ℕ → Image → Type 0) (clock faults : V → ℕ)
+-- moment, its faults and why there may be no room, which states it may hold, to which states a place may be opened on it and why not, and what a call may make of it.
+module _ {P V : Type 0} (seen : P → Seen) (vol : P → V) (holds : Image → State → Type 0) (reads : V → Image → Type 0) (left : V → ℕ → Image → Type 0) (clock faults : V → ℕ) (causes : RoomCauses V)
     (base : Option ℕ → V → State → Type 0) (opens : V → State → Type 0) (refuses : V → OpenFault → Type 0) (keeps : V → V → Type 0) where
   -- as what a desk of such places is opened on volumes
   abbrev pub Opens : List V → Solo V → Type 0
-  Opens = OpensDesk seen vol holds reads left clock faults base opens refuses keeps
+  Opens = OpensDesk seen vol holds reads left clock faults causes base opens refuses keeps
 
   -- why none is
   abbrev pub Refuses : List V → HubFault V → Type 0
-  Refuses = FailsToOpen seen vol holds reads left clock faults base opens refuses keeps
+  Refuses = FailsToOpen seen vol holds reads left clock faults causes base opens refuses keeps
 
   -- what entries make of it
   abbrev pub Made : Solo V → List DeskEntry → Solo V → Type 0
-  Made = DeskMade keeps holds left clock base
+  Made = DeskMade keeps holds left clock base causes.outgrows_log
 
   -- what is left of it at its closing
   abbrev pub Leaves : Solo V → Closed V → Type 0

@@ -1,11 +1,12 @@
 -- What a run comes to whose client sends whole operations, if nothing stands in the way.
-use Rattle.std.specs.Prelude.{◌≡◌, ℕ, ◌<◌, ◌^◌, ◌-◌, false, ◌⊎◌, List, [], ◌∷◌, ◌++◌, length, replicate, All, IfSome, Option, None, Some, Ok}
-use Rattle.std.specs.List.{flat_map}
+use Rattle.std.specs.Prelude.{◌≡◌, ℕ, ◌<◌, ◌^◌, ◌-◌, true, false, ◌⊎◌, List, [], ◌∷◌, ◌++◌, length, replicate, All, IfSome, Option, None, Some, Ok}
+use Rattle.std.specs.List.{AllZip, flat_map}
 use mathlib.Core.Logic.{inl, inr}
 use Rattle.js_base.specs.Bytes.{Bytes}
 use Rattle.js_base.specs.Causes.{Rose}
 use Rattle.js_base.specs.declared.out.ApiError.{ApiError}
 use Rattle.js_model.specs.PlaceStates.{PlaceIn, vacant_place}
+use Rattle.js_model.specs.Runs.{is_few}
 use Rattle.js_model.specs.Router.{Router, Session, Waiting, Queue, Marked, session_of}
 use Rattle.link_edge.specs.declared.answers.Answer.{Answer}
 use Rattle.link_edge.specs.declared.answers.Answer.TheVariants as answers
@@ -17,6 +18,7 @@ use Rattle.desk_places.specs.declared.faults.HubFault.{HubFault}
 use Rattle.place_engine.specs.declared.faults.PlaceFault.{PlaceFault}
 use Rattle.js_api.specs.Entries.{DeskEntry, Routed, Looked, Turned, Resumed, Held, Stirred, Halted, Missed, Spent, entries_in}
 use Rattle.js_api.specs.Leading.{Leads}
+use Rattle.js_api.specs.Rooms.{FindNoRoom}
 use Rattle.js_api.specs.Worlds.{World, Scene, SoloStep, is_broken}
 use Rattle.session.specs.Keeping.{is_stale}
 use Rattle.session.specs.Peer.{Act, Hears, Ticks, op_request, IsRefused}
@@ -25,6 +27,7 @@ use Rattle.session.specs.declared.ending.Refusal.{Refusal}
 use Rattle.server.specs.declared.words.NamedStream.{NamedStream}
 use Rattle.server.specs.Outside.{DoorTold, Outside}
 use Rattle.server.specs.Accepting.{IsQuiet}
+use Rattle.server.specs.Attending.{run_entries}
 use Rattle.server.specs.Preparing.{IsMaking}
 use Rattle.server.specs.Running.{Waits, Attends, Unmade, Awaited, pipe_limits}
 use Rattle.server.specs.Closing.{flush_status}
@@ -73,13 +76,40 @@ AreUntroubled world = All IsUntroubled world.places
 abbrev pub IsFlushed : Option (ℕ × PlaceFault) → Type 0
 IsFlushed failed = IfSome failed (λ (f : ℕ × PlaceFault). flush_status f.1 ≡ 7)
 
+-- ---- the room
+
+-- its volume refused no room from the one to the other
+abbrev pub IsUnrefused : PlaceIn → PlaceIn → Type 0
+IsUnrefused old new = ¬ Rose old.volume.refusals new.volume.refusals
+
+-- no log was outgrown in it
+abbrev pub IsWithin : DeskEntry → Type 0
+IsWithin (Routed call told) = Unit {0}
+IsWithin (Looked joined call told) = Unit {0}
+IsWithin (Turned after found) = Unit {0}
+IsWithin (Resumed last) = Unit {0}
+IsWithin (Held hold) = hold.outgrows ≡ false
+IsWithin (Stirred at before after failed) = Unit {0}
+IsWithin (Halted at state) = Unit {0}
+IsWithin (Missed at kept) = Unit {0}
+IsWithin (Spent number) = Unit {0}
+
+abbrev pub AreWithin : List DeskEntry → Type 0
+AreWithin [] = Unit {0}
+AreWithin (entry ∷ more) = IsWithin entry × AreWithin more
+
+-- no volume of the places refused room while these entries were made, and no log was outgrown
+pub record HadRoom (opened : List PlaceIn) (entries : List DeskEntry) (after : List PlaceIn) : Type 0 where
+  pub unrefused : AllZip IsUnrefused opened after
+  pub within : AreWithin entries
+
 -- ---- the stream
 
--- a making of the stream is refused by none of these places, unless a volume fails
+-- a making of the stream is refused by none of these places, unless a volume fails or there is no room
 abbrev pub IsWelcome : List PlaceIn → Option NamedStream → Type 0
 IsWelcome opened None = Unit {0}
 IsWelcome opened (Some stream) = (error : ApiError) (clock_old clock_new : Option (List ℕ)) (after : Scene)
-    → IsMaking opened stream (Ok (Some error)) clock_old clock_new after → AreUntroubled after.world → ⊥
+    → (making : IsMaking opened stream (Ok (Some error)) clock_old clock_new after) → AreUntroubled after.world → HadRoom opened making.entries after.world.places → ⊥
 
 -- ---- nothing stands in the way
 
@@ -128,13 +158,14 @@ op_of Ticks = []
 abbrev pub ops_of : List Act → List Op
 ops_of acts = flat_map op_of acts
 
--- no volume failed in it, and no place was found stopped, so no call is answered by errors 20011 and 20012
+-- No volume failed in it, no place was found stopped, and there was room for what was asked, unless 65,533 messages or more counted against its place. So no
+-- call is answered by errors 20011 and 20012, and by 20016 only for the messages.
 abbrev pub IsUnbroken : DeskEntry → Type 0
 IsUnbroken (Routed call told) = Unit {0}
 IsUnbroken (Looked joined call told) = Unit {0}
 IsUnbroken (Turned after found) = Unit {0}
 IsUnbroken (Resumed last) = Unit {0}
-IsUnbroken (Held hold) = is_broken (entries_in hold) ≡ false
+IsUnbroken (Held hold) = (is_broken (entries_in hold) ≡ false) × (is_few hold.stored ≡ true → ¬ FindNoRoom hold.steps)
 IsUnbroken (Stirred at before after failed) = failed ≡ false
 IsUnbroken (Halted at state) = ⊥
 IsUnbroken (Missed at kept) = Unit {0}
@@ -144,7 +175,7 @@ abbrev pub AreUnbroken : List DeskEntry → Type 0
 AreUnbroken [] = Unit {0}
 AreUnbroken (entry ∷ more) = IsUnbroken entry × AreUnbroken more
 
--- each operation was carried out, in their order and by no place that failed, and the bytes are the server's information and what was said turn by
+-- each operation was carried out, in their order and by no place that failed or had no room, and the bytes are the server's information and what was said turn by
 -- turn, for the operations and for the ticks
 pub record IsAnswered (ops : List Op) (journal : Journal) (bytes : Bytes) : Type 0 where
   pub session : ℕ
@@ -185,19 +216,24 @@ module _ {V : Type 0} (Opens : List V → Solo V → Type 0) (Refuses : List V �
       (run : IsAttended Opens Refuses Made Closes stream status vols_old vols_new old new) → AreUntroubled run.after.scene.world → IsCalmOver input run.attended.attends
 
   module _ {stream : Option NamedStream} {status : ℕ} {vols_old vols_new : List V} {old new : Outside} where
-    -- the volumes were untroubled as the desk was closed, and then nothing could be brought to them only because memory ran out
+    -- the volumes were untroubled as the desk was closed, there was room until then, and nothing could be brought to them only because memory ran out
     abbrev pub LeavesUntroubled : PipeEnds Opens Refuses Made Closes stream status vols_old vols_new old new → Type 0
     LeavesUntroubled (Starved run) = Unit {0}
     LeavesUntroubled (Unopened run) = Unit {0}
-    LeavesUntroubled (Attended run) = AreUntroubled run.after.scene.world × IsFlushed run.closed.failed
+    LeavesUntroubled (Attended run) =
+        AreUntroubled run.after.scene.world
+        × HadRoom run.desk.scene.world.places
+        (run_entries run.desk.scene.world.places stream run.after.scene run.outcome.status old (record new { sink = run.sink }) run.attended.attends)
+        run.after.scene.world.places
+        × IsFlushed run.closed.failed
 
     abbrev pub AreAnswered : List Op → PipeEnds Opens Refuses Made Closes stream status vols_old vols_new old new → Type 0
     AreAnswered ops (Starved run) = ⊥
     AreAnswered ops (Unopened run) = ⊥
     AreAnswered ops (Attended run) = AreAnsweredOver ops run.attended.attends
 
-  -- A calm run over whole operations, on volumes that may be opened and do not refuse its stream, and which were untroubled at the closing, ends with status
-  -- 0, and a link that was given out was answered each of them; or memory ran out.
+  -- A calm run over whole operations, on volumes that may be opened and do not refuse its stream, which had room and were untroubled at the closing, ends with
+  -- status 0, and a link that was given out was answered each of them; or memory ran out.
   abbrev pub LawComplete : Type 0
   LawComplete = (stream : Option NamedStream) (status : ℕ) (vols_old vols_new : List V) (old new : Outside) (input : Bytes) (ops : List Op)
       → MayOpen vols_old vols_new → AreWelcoming vols_old stream → IsValid input ops → IsCalm input stream status vols_old vols_new old new

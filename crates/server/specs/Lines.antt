@@ -52,6 +52,10 @@ damaged_line place file at = line_of (codes "damaged place-" ∷ place_zeros pla
 abbrev pub version_line : (version place : ℕ) → Bytes
 version_line version place = line_of (codes "unknown version " ∷ decimal version ∷ codes " in place-" ∷ place_zeros place ∷ decimal place ∷ [])
 
+-- there is no room for what this place may have to write
+abbrev pub no_room_line : ℕ → Bytes
+no_room_line place = line_of (codes "no room for place-" ∷ place_zeros place ∷ decimal place ∷ [])
+
 -- the streams of these places share a name or a subject
 abbrev pub conflict_line : (first second : ℕ) → Bytes
 conflict_line first second = line_of (codes "place-" ∷ place_zeros first ∷ decimal first ∷ codes " and place-" ∷ place_zeros second ∷ decimal second ∷ codes " conflict" ∷ [])

@@ -7,7 +7,7 @@ use Rattle.js_desk.specs.Opening.{OpensDesk}
 use Rattle.js_desk.specs.Solo.{Solo, DeskMade}
 use Rattle.desk_places.specs.declared.faults.Closed.{Closed}
 use Rattle.desk_places.specs.declared.faults.HubFault.{HubFault}
-use Rattle.place_engine.specs.InMemory.{Contents, bases_on_nothing, counts_none, holds_nothing, leaves_nothing, opens_vacant, reads_nothing, refuses_in_memory, seen_of}
+use Rattle.place_engine.specs.InMemory.{Contents, bases_on_nothing, counts_none, holds_nothing, leaves_nothing, never_short, opens_vacant, reads_nothing, refuses_in_memory, seen_of}
 use Rattle.place_engine.specs.Stepping.{Seen}
 use Rattle.server.specs.declared.words.NamedStream.{NamedStream}
 use Rattle.server.specs.Ending.{PipeEnds}
@@ -28,13 +28,13 @@ module _ {V : Type 0} where
 
   -- of desks whose places are in memory: as what one is opened on volumes, why none is, what entries make of it, and what is left of it at its closing
   abbrev pub Opens : List V → Solo V → Type 0
-  Opens = OpensDesk place_of volume_of holds_nothing reads_nothing leaves_nothing counts_none counts_none bases_on_nothing opens_vacant refuses_in_memory Keeps
+  Opens = OpensDesk place_of volume_of holds_nothing reads_nothing leaves_nothing counts_none counts_none never_short bases_on_nothing opens_vacant refuses_in_memory Keeps
 
   abbrev pub Refuses : List V → HubFault V → Type 0
-  Refuses = FailsToOpen place_of volume_of holds_nothing reads_nothing leaves_nothing counts_none counts_none bases_on_nothing opens_vacant refuses_in_memory Keeps
+  Refuses = FailsToOpen place_of volume_of holds_nothing reads_nothing leaves_nothing counts_none counts_none never_short bases_on_nothing opens_vacant refuses_in_memory Keeps
 
   abbrev pub Made : Solo V → List DeskEntry → Solo V → Type 0
-  Made = DeskMade Keeps holds_nothing leaves_nothing counts_none bases_on_nothing
+  Made = DeskMade Keeps holds_nothing leaves_nothing counts_none bases_on_nothing (λ state what. ⊥)
 
   abbrev pub Leaves : Solo V → Closed V → Type 0
   Leaves desk closed = Closes place_of volume_of holds_nothing reads_nothing leaves_nothing counts_none bases_on_nothing Keeps desk.vols desk.scene.world.places closed

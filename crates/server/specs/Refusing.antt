@@ -5,19 +5,21 @@ use Rattle.place_engine.specs.declared.faults.OpenFault.{OpenFault}
 use Rattle.place_engine.specs.declared.faults.OpenFault.TheVariants as faults
 use Rattle.desk_places.specs.declared.faults.HubFault.{HubFault}
 use Rattle.desk_places.specs.declared.faults.HubFault.TheVariants as hubs
-use Rattle.server.specs.Lines.{disk_fault_line, damaged_line, version_line, conflict_line}
+use Rattle.server.specs.Lines.{disk_fault_line, damaged_line, version_line, no_room_line, conflict_line}
 
--- the status of a place that was not opened: its volume failed, holds what no server may have left, or memory ran out
+-- the status of a place that was not opened: its volume failed or has no room, holds what no server may have left, or memory ran out
 abbrev pub open_status : OpenFault → ℕ
 open_status faults.Fault = 4
 open_status (faults.Damaged file at) = 5
 open_status (faults.UnknownVersion version) = 5
+open_status faults.NoRoom = 4
 open_status faults.NoMemory = 7
 
 abbrev pub open_line : ℕ → OpenFault → Option Bytes
 open_line place faults.Fault = Some (disk_fault_line place)
 open_line place (faults.Damaged file at) = Some (damaged_line place file at)
 open_line place (faults.UnknownVersion version) = Some (version_line version place)
+open_line place faults.NoRoom = Some (no_room_line place)
 open_line place faults.NoMemory = None
 
 module _ {V : Type 0} where

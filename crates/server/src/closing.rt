@@ -15,12 +15,12 @@ const FAILED: u8 = 4;
 /// The status if memory runs out.
 const STARVED: u8 = 7;
 
-/// The status of a place that could not be brought to its volume. A log is full only after a call that found no memory.
+/// The status of a place that could not be brought to its volume.
 fn flush_status(fault: PlaceFault) -> u8
     ensures { result ≡ flush_status fault }
 {
     match fault {
-        PlaceFault::NoMemory(_) | PlaceFault::Full => STARVED,
+        PlaceFault::NoMemory(_) => STARVED,
         PlaceFault::StoreFault | PlaceFault::Stopped(_) | PlaceFault::Gone(_) => FAILED,
         PlaceFault::Worn { .. } => 10,
     }

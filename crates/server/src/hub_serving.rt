@@ -123,8 +123,8 @@ where
     requires volumes { vec_len vols ≤ 32 }
     requires workers { (0 < listening.now.workers) × (listening.now.workers ≤ 32) }
     ensures ends { ServeEnds
-        (OpensHub P.seen P.vol P.holds P.reads P.left P.clock P.faults P.base P.opens P.refuses P.keeps_vol)
-        (FailsToOpenHub P.seen P.vol P.holds P.reads P.left P.clock P.faults P.base P.opens P.refuses P.keeps_vol)
+        (OpensHub P.seen P.vol P.holds P.reads P.left P.clock P.faults P.room_causes P.base P.opens P.refuses P.keeps_vol)
+        (FailsToOpenHub P.seen P.vol P.holds P.reads P.left P.clock P.faults P.room_causes P.base P.opens P.refuses P.keeps_vol)
         (ClosesHub P.seen P.vol P.holds P.reads P.left P.clock P.base P.keeps_vol)
         listening.now result.status vols.items result.vols.items
         (record {

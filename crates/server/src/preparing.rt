@@ -21,7 +21,7 @@ pub fn prepare<P: Place, C: Clock>(
 ) -> Result<Option<ApiError>, DeskFault>
     requires opened { desk.old.scene ≡ opening desk.old.scene.world.places }
     requires subject { IfSome stream.now (λ named. IsTrue (is_stream_subject named.subject)) }
-    ensures prepared { IsPrepared (DeskMade P.keeps_vol P.holds P.left P.clock P.base) desk.old desk.new stream.now result (C.to_come clock.old) (C.to_come clock.new) }
+    ensures prepared { IsPrepared (DeskMade P.keeps_vol P.holds P.left P.clock P.base P.room_causes.outgrows_log) desk.old desk.new stream.now result (C.to_come clock.old) (C.to_come clock.new) }
     ensures client { desk.new.client ≡ desk.old.client }
 {
     match stream {

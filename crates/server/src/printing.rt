@@ -3,7 +3,7 @@
 ghost use Rattle.std.specs.Prelude.{◌≡◌, map};
 ghost use Rattle.js_base.specs.Causes.{HasCause};
 ghost use Rattle.link_edge.specs.Puts.{Writes};
-ghost use Rattle.server.specs.Lines.{part_bytes, line_of, shown, shown_byte, dots_of, place_zeros, file_zeros, number_line, disk_fault_line, damaged_line, version_line, conflict_line};
+ghost use Rattle.server.specs.Lines.{part_bytes, line_of, shown, shown_byte, dots_of, place_zeros, file_zeros, number_line, disk_fault_line, damaged_line, version_line, no_room_line, conflict_line};
 ghost use Rattle.server.specs.Outside.{Prints};
 ghost use Rattle.server.specs.WrongWords.{wrong_in, wrong_line};
 
@@ -135,6 +135,20 @@ pub fn print_disk_fault<O: Sink>(out: &mut O, place: u32)
         out,
         &[
             Part::Text(b"disk fault in place-"),
+            Part::Text(place_zeros(place)),
+            Part::Number(u64::from(place)),
+        ],
+    );
+}
+
+/// Prints that there is no room for what this place may have to write.
+pub fn print_no_room<O: Sink>(out: &mut O, place: u32)
+    ensures printed { Prints (no_room_line place) (record { written = O.written out.old; faults = O.faults out.old }) (record { written = O.written out.new; faults = O.faults out.new }) }
+{
+    print_line(
+        out,
+        &[
+            Part::Text(b"no room for place-"),
             Part::Text(place_zeros(place)),
             Part::Number(u64::from(place)),
         ],

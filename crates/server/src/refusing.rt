@@ -4,7 +4,9 @@ ghost use Rattle.std.specs.Prelude.{◌≡◌};
 ghost use Rattle.server.specs.Outside.{PrintsLine};
 ghost use Rattle.server.specs.Refusing.{open_line, open_status, refused_line, refused_status, vols_of};
 
-use crate::printing::{print_conflict, print_damaged, print_disk_fault, print_version};
+use crate::printing::{
+    print_conflict, print_damaged, print_disk_fault, print_no_room, print_version,
+};
 use desk_places::HubFault;
 use link_edge::Sink;
 use place_engine::OpenFault;
@@ -26,6 +28,10 @@ fn refuse_place<O: Sink>(out: &mut O, place: u32, fault: OpenFault) -> u8
         OpenFault::UnknownVersion(version) => {
             print_version(out, version, place);
             5
+        }
+        OpenFault::NoRoom => {
+            print_no_room(out, place);
+            4
         }
         OpenFault::NoMemory => 7,
     }

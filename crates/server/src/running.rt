@@ -53,7 +53,7 @@ fn attend<P: Place, R: Door, C: Clock, O: Sink>(
     requires opened { desk.old.scene ≡ opening desk.old.scene.world.places }
     requires closed { desk.old.client.is_open ≡ false }
     requires subject { IfSome stream.now (λ named. IsTrue (is_stream_subject named.subject)) }
-    ensures attended { IsAttendedOver (DeskMade P.keeps_vol P.holds P.left P.clock P.base) desk.old desk.new stream.now result
+    ensures attended { IsAttendedOver (DeskMade P.keeps_vol P.holds P.left P.clock P.base P.room_causes.outgrows_log) desk.old desk.new stream.now result
         (record {
           door = record { answered = R.answered door.old; gave = R.gave door.old; back = R.back door.old; starved = R.starved door.old; faults = R.faults door.old };
           clock = C.to_come clock.old;
@@ -90,9 +90,9 @@ fn pipe<P: Place, R: Door, C: Clock, O: Sink>(
     requires volumes { vec_len vols ≤ 32 }
     requires subject { IfSome stream.now (λ named. IsTrue (is_stream_subject named.subject)) }
     ensures ends { PipeEnds
-        (OpensDesk P.seen P.vol P.holds P.reads P.left P.clock P.faults P.base P.opens P.refuses P.keeps_vol)
-        (FailsToOpen P.seen P.vol P.holds P.reads P.left P.clock P.faults P.base P.opens P.refuses P.keeps_vol)
-        (DeskMade P.keeps_vol P.holds P.left P.clock P.base)
+        (OpensDesk P.seen P.vol P.holds P.reads P.left P.clock P.faults P.room_causes P.base P.opens P.refuses P.keeps_vol)
+        (FailsToOpen P.seen P.vol P.holds P.reads P.left P.clock P.faults P.room_causes P.base P.opens P.refuses P.keeps_vol)
+        (DeskMade P.keeps_vol P.holds P.left P.clock P.base P.room_causes.outgrows_log)
         (λ desk closed. Closes P.seen P.vol P.holds P.reads P.left P.clock P.base P.keeps_vol desk.vols desk.scene.world.places closed)
         stream.now result.0 vols.items result.1.items
         (record {
@@ -164,12 +164,12 @@ where
     // reached by then; or, for `serve`, what stood in the places as they were opened, which the notice was told, what all workers did with their seats and what
     // became of the links, why no more came, and which place could not be brought to its volume. The volumes are those before and after.
     ensures ends { IfSome (command_of (texts words.now)) (λ command. CommandEnds
-        (OpensDesk P.seen P.vol P.holds P.reads P.left P.clock P.faults P.base P.opens P.refuses P.keeps_vol)
-        (FailsToOpen P.seen P.vol P.holds P.reads P.left P.clock P.faults P.base P.opens P.refuses P.keeps_vol)
-        (DeskMade P.keeps_vol P.holds P.left P.clock P.base)
+        (OpensDesk P.seen P.vol P.holds P.reads P.left P.clock P.faults P.room_causes P.base P.opens P.refuses P.keeps_vol)
+        (FailsToOpen P.seen P.vol P.holds P.reads P.left P.clock P.faults P.room_causes P.base P.opens P.refuses P.keeps_vol)
+        (DeskMade P.keeps_vol P.holds P.left P.clock P.base P.room_causes.outgrows_log)
         (λ desk closed. Closes P.seen P.vol P.holds P.reads P.left P.clock P.base P.keeps_vol desk.vols desk.scene.world.places closed)
-        (OpensHub P.seen P.vol P.holds P.reads P.left P.clock P.faults P.base P.opens P.refuses P.keeps_vol)
-        (FailsToOpenHub P.seen P.vol P.holds P.reads P.left P.clock P.faults P.base P.opens P.refuses P.keeps_vol)
+        (OpensHub P.seen P.vol P.holds P.reads P.left P.clock P.faults P.room_causes P.base P.opens P.refuses P.keeps_vol)
+        (FailsToOpenHub P.seen P.vol P.holds P.reads P.left P.clock P.faults P.room_causes P.base P.opens P.refuses P.keeps_vol)
         (ClosesHub P.seen P.vol P.holds P.reads P.left P.clock P.base P.keeps_vol)
         command result.status vols.items result.vols.items
         (record {

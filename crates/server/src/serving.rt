@@ -97,7 +97,7 @@ fn serve<P: Place, R: Door, C: Clock>(
     requires fresh { IsFresh (R.Link.answered link) (R.Link.given link) (R.Link.failings link) (R.Link.faults link) }
     requires input { limits.now.input < 2 ^ 62 }
     requires host { is_plain limits.now.host ≡ true }
-    ensures served { IsServedOver (DeskMade P.keeps_vol P.holds P.left P.clock P.base) limits.now desk.old desk.new result (R.gave door.old) (R.back door.old) (R.back door.new)
+    ensures served { IsServedOver (DeskMade P.keeps_vol P.holds P.left P.clock P.base P.room_causes.outgrows_log) limits.now desk.old desk.new result (R.gave door.old) (R.back door.old) (R.back door.new)
         (C.to_come clock.old) (C.to_come clock.new) }
     ensures answered { R.answered door.new ≡ R.answered door.old }
     ensures gave { R.gave door.new ≡ R.gave door.old }
@@ -118,7 +118,7 @@ pub fn serve_first<P: Place, R: Door, C: Clock>(
     clock: &mut C,
 ) -> Outcome
     requires closed { desk.old.client.is_open ≡ false }
-    ensures awaited { IsAwaitedOver (DeskMade P.keeps_vol P.holds P.left P.clock P.base) desk.old desk.new result
+    ensures awaited { IsAwaitedOver (DeskMade P.keeps_vol P.holds P.left P.clock P.base P.room_causes.outgrows_log) desk.old desk.new result
         (record { answered = R.answered door.old; gave = R.gave door.old; back = R.back door.old; starved = R.starved door.old; faults = R.faults door.old })
         (record { answered = R.answered door.new; gave = R.gave door.new; back = R.back door.new; starved = R.starved door.new; faults = R.faults door.new })
         (C.to_come clock.old) (C.to_come clock.new) }

@@ -56,7 +56,7 @@ fn plural(count: u64) -> &'static str {
 fn reason_of(status: u8) -> &'static str {
     match status {
         0 => "no more connections were to be accepted",
-        4 => "the disk failed",
+        4 => "the disk failed, or is full",
         5 => "the folder holds what no server may have left",
         7 => "out of memory",
         8 => "it could accept no more connections",

@@ -15,7 +15,7 @@ use Rattle.link_edge.proofs.Moments.{reads_push, reads_on}
 use Rattle.js_api.specs.Entries.{DeskEntry}
 use Rattle.session.specs.Talk.{Turn, Last, Greeting, Nothing, Told, Within, Waiting, Stage, start, IsWhole, IsSpent, AreTurns, Ends, IsCutOff, greeting, before_last, entries_of_turn, entries_of_last, last_answers, last_moments}
 use Rattle.session.specs.Giving.{GivesPart, IsLinkFault, end_of}
-use Rattle.link_edge.specs.Causes.{HasCause}
+use Rattle.js_base.specs.Causes.{HasCause}
 use Rattle.session.specs.Turning.{IsTurn, IsLastTurn, IsGreeted}
 use Rattle.session.specs.Failing.{FailsBy}
 use Rattle.session.specs.Session.{Converses}

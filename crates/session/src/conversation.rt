@@ -1,7 +1,7 @@
 //! What a session hears: pieces of the input, the operations that are whole by then, and the tick behind them.
 
 ghost use Rattle.std.specs.Prelude.{◌≡◌, ◌+◌, ◌<◌, ◌^◌, ◌++◌, true, OnOk, length};
-ghost use Rattle.link_edge.specs.Causes.{HasCause};
+ghost use Rattle.js_base.specs.Causes.{HasCause};
 ghost use Rattle.link_edge.specs.Failings.{HasNoFailings};
 ghost use Rattle.nats_frames.specs.Decoding.{total};
 ghost use Rattle.session.specs.Failing.{FailsIn};

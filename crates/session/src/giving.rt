@@ -1,7 +1,7 @@
 //! Bytes go out.
 
 ghost use Rattle.std.specs.Prelude.{◌≡◌, ◌<◌, length, IfOk};
-ghost use Rattle.link_edge.specs.Causes.{HasCause};
+ghost use Rattle.js_base.specs.Causes.{HasCause};
 ghost use Rattle.link_edge.specs.Failings.{HasNoFailings};
 ghost use Rattle.js_base.specs.Framing.{frame as bytes_of};
 ghost use Rattle.link_edge.specs.Told.{grown};

@@ -1,7 +1,7 @@
 //! How a session parts from its client: the error line of its end, by the NATS client protocol's `-ERR`.
 
 ghost use Rattle.std.specs.Prelude.{◌≡◌, ◌++◌, true, is_some, option_map, OnOk, OnErr};
-ghost use Rattle.link_edge.specs.Causes.{HasCause};
+ghost use Rattle.js_base.specs.Causes.{HasCause};
 ghost use Rattle.link_edge.specs.Failings.{HasNoFailings};
 ghost use Rattle.session.specs.Talk.{fault_text, refusal_text, last_text, last_line, is_parting};
 ghost use Rattle.session.specs.Failing.{FailsBy};

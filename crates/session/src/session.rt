@@ -1,7 +1,7 @@
 //! A session: one connection, from the server's information to its end.
 
 ghost use Rattle.std.specs.Prelude.{◌≡◌, ◌<◌, ◌^◌, true, false, vec_len, IfOk};
-ghost use Rattle.link_edge.specs.Causes.{HasCause};
+ghost use Rattle.js_base.specs.Causes.{HasCause};
 ghost use Rattle.link_edge.specs.Failings.{HasNoFailings};
 ghost use Rattle.js_api.specs.Clients.{new_client};
 ghost use Rattle.session.specs.Host.{is_plain};

@@ -1,7 +1,7 @@
 //! One turn of a session: what the link answers, and what is said for it.
 
 ghost use Rattle.std.specs.Prelude.{◌≡◌, ◌≤◌, ◌<◌, ◌+◌, ◌^◌, true, OnOk, length};
-ghost use Rattle.link_edge.specs.Causes.{HasCause};
+ghost use Rattle.js_base.specs.Causes.{HasCause};
 ghost use Rattle.link_edge.specs.Failings.{HasNoFailings};
 ghost use Rattle.nats_frames.specs.Decoding.{total};
 ghost use Rattle.js_api.specs.Clients.{new_client};

@@ -147,7 +147,7 @@ last-append (Spent number ∷ first) more last = last-append first more last
 
 last_prepared : (at : PlaceAt) (entries : List DeskEntry) (last : Option PlaceAt) → Prepares at entries → last_by entries last ≡ last
 last_prepared at entries last (inl none) = ap (λ (es : List DeskEntry). last_by es last) none
-last_prepared at entries last (inr (before, after, one)) = ap (λ (es : List DeskEntry). last_by es last) one
+last_prepared at entries last (inr (before, after, failed, one)) = ap (λ (es : List DeskEntry). last_by es last) one
 
 last_unmade : (at : PlaceAt) (fault : Option DeskFault) (entries : List DeskEntry) (last : Option PlaceAt) → Unmakes at fault entries → last_by entries last ≡ last
 last_unmade at None entries last h = absurd h
@@ -169,7 +169,7 @@ last_became (became.Made reply) at what now ready fault entries last (hold, one,
 last_became (became.Unsaid refused) at what now ready fault entries last (hold, reply, is, one, unsaid, of) = last_one hold at entries last one is.at_is
 last_became became.Ticked at what now ready fault entries last (hold, one, is, why) = last_one hold at entries last one is.at_is
 last_became became.Nothing at what now ready fault entries last (quiet, unmade) = last_unmade at fault entries last unmade
-last_became (became.Broke stream full) at what now ready fault entries last (hold, one, is, quiet) = last_one hold at entries last one is.at_is
+last_became (became.Broke stream) at what now ready fault entries last (hold, one, is, quiet) = last_one hold at entries last one is.at_is
 last_became (became.Stopped stream) at what now ready fault entries last (state, one, named, quiet) = ap (λ (es : List DeskEntry). last_by es last) one
 last_became became.Gone at what now ready fault entries last (kept, one, quiet) = ap (λ (es : List DeskEntry). last_by es last) one
 

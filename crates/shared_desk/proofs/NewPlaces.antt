@@ -1,10 +1,11 @@
 -- A place that was just opened is a new place of a hub.
-use Rattle.std.proofs.Common.{◌≡◌, ◌≤◌, ℕ, List, [], ◌∷◌, Option, None, refl, sym, ap, subst, ◌∙◌, inl, inr, arith}
+use Rattle.std.proofs.Common.{◌≡◌, ◌≤◌, ℕ, List, [], ◌∷◌, Option, refl, sym, ap, subst, ◌∙◌, inl, inr, arith}
 use Rattle.std.specs.Prelude.{◌↔◌}
 use Rattle.std.specs.List.{AllByRecursion, AllZip}
 use Rattle.js_model.specs.declared.stream.State.{State}
 use Rattle.place_engine.specs.Stepping.{Image, IsKept, Seen}
 use Rattle.place_engine.specs.declared.faults.OpenFault.{OpenFault}
+use Rattle.place_engine.specs.Preparing.{RoomCauses}
 use Rattle.histories.specs.Entries.{Opening, SeatId}
 use Rattle.turn_lock.specs.Calls.{number_of}
 use Rattle.turn_lock.specs.Seats.{SeatView}
@@ -14,21 +15,21 @@ use Rattle.desk_places.specs.Opening.{OpensOn}
 use Rattle.shared_desk.specs.Laying.{IsSameSeat}
 use Rattle.shared_desk.specs.Opening.{ComesBack, WasOpened}
 
-module _ {P V : Type 0} (seen : P → Seen) (vol : P → V) (holds : Image → State → Type 0) (reads : V → Image → Type 0) (left : V → ℕ → Image → Type 0) (clock faults : V → ℕ)
+module _ {P V : Type 0} (seen : P → Seen) (vol : P → V) (holds : Image → State → Type 0) (reads : V → Image → Type 0) (left : V → ℕ → Image → Type 0) (clock faults : V → ℕ) (causes : RoomCauses V)
     (base : Option ℕ → V → State → Type 0) (opens : V → State → Type 0) (refuses : V → OpenFault → Type 0) (keeps : V → V → Type 0) where
-  pub was_opened : (before : List V) (row : List P) → AllZip (OpensOn seen vol holds reads left clock faults base opens refuses keeps) before row → AllByRecursion (WasOpened seen vol holds reads left clock faults base opens refuses keeps) row
+  pub was_opened : (before : List V) (row : List P) → AllZip (OpensOn seen vol holds reads left clock faults causes base opens refuses keeps) before row → AllByRecursion (WasOpened seen vol holds reads left clock faults causes base opens refuses keeps) row
   was_opened [] [] z = tt
   was_opened [] (p ∷ row) z = absurd z
   was_opened (v ∷ before) [] z = absurd z
   was_opened (v ∷ before) (p ∷ row) z = ((v, z.0), was_opened before row z.1)
 
   -- those that are as they were came back
-  pub as_they_were : (row : List P) → AllZip (ComesBack seen vol holds reads left clock faults base opens refuses keeps) row row
+  pub as_they_were : (row : List P) → AllZip (ComesBack seen vol holds reads left clock faults causes base opens refuses keeps) row row
   as_they_were [] = tt
   as_they_were (p ∷ row) = (inl refl, as_they_were row)
 
-  pub as_they_are : (was is : List P) → is ≡ was → AllZip (ComesBack seen vol holds reads left clock faults base opens refuses keeps) was is
-  as_they_are was is e = subst (λ (row : List P). AllZip (ComesBack seen vol holds reads left clock faults base opens refuses keeps) was row) (sym e) (as_they_were was)
+  pub as_they_are : (was is : List P) → is ≡ was → AllZip (ComesBack seen vol holds reads left clock faults causes base opens refuses keeps) was is
+  as_they_are was is e = subst (λ (row : List P). AllZip (ComesBack seen vol holds reads left clock faults causes base opens refuses keeps) was row) (sym e) (as_they_were was)
 
   module _ (was is : P) (port after : SeatView) (new : IsNewPort port) (o : Opening) (opens_so : o ≡ opening_of (seen was).place port)
       (stands : PlaceIs holds left clock base keeps o [] (seen is).place (vol is) after) where
@@ -51,7 +52,7 @@ module _ {P V : Type 0} (seen : P → Seen) (vol : P → V) (holds : Image → S
     id_is = λ i. record { lock = lock_is i; number = number_is i }
 
     -- it came back out of a lock in which nothing was made
-    pub back_again : ComesBack seen vol holds reads left clock faults base opens refuses keeps was is
+    pub back_again : ComesBack seen vol holds reads left clock faults causes base opens refuses keeps was is
     back_again = inr (after, subst At id_is there)
 
     pub same_again : IsSameSeat port after
@@ -60,8 +61,8 @@ module _ {P V : Type 0} (seen : P → Seen) (vol : P → V) (holds : Image → S
   module _ (bases : (p : P) (b : State) → (seen p).is_base b ↔ base (seen p).place.stopped (vol p) b)
       (leaves : (p : P) (t : ℕ) (image : Image) → (seen p).left_since t image ↔ left (vol p) t image)
       (earlier : (v : V) (t u : ℕ) (image : Image) → t ≤ u → left v u image → left v t image)
-      (stands : (p : P) → ((seen p).place.volume.moment ≡ clock (vol p)) × ((seen p).place.volume.faults ≡ faults (vol p))) where
-    pub new_place : (p : P) → IsKept holds (seen p) → WasOpened seen vol holds reads left clock faults base opens refuses keeps p → IsNewPlace holds left clock base keeps (seen p).place (vol p)
+      (stands : (p : P) → ((seen p).place.volume.moment ≡ clock (vol p)) × ((seen p).place.volume.faults ≡ faults (vol p)) × ((seen p).place.volume.refusals ≡ causes.refusals (vol p))) where
+    pub new_place : (p : P) → IsKept holds (seen p) → WasOpened seen vol holds reads left clock faults causes base opens refuses keeps p → IsNewPlace holds left clock base keeps (seen p).place (vol p)
     new_place p kept (before, on) = record {
       going = on.opened.going;
       counted = on.opened.counted;

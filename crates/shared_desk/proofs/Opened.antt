@@ -12,6 +12,7 @@ use Rattle.js_model.specs.Catalog.{Catalog, kept_place}
 use Rattle.catalog.specs.Apart.{IsApart}
 use Rattle.place_engine.specs.Stepping.{Image, Seen}
 use Rattle.place_engine.specs.declared.faults.OpenFault.{OpenFault}
+use Rattle.place_engine.specs.Preparing.{RoomCauses}
 use Rattle.js_api.specs.Worlds.{kept_in}
 use Rattle.histories.specs.Entries.{Opening, OfCatalog}
 use Rattle.turn_lock.specs.Seats.{LockView}
@@ -27,7 +28,7 @@ use Rattle.desk_places.specs.declared.faults.HubFault.{HubFault}
 use Rattle.desk_places.specs.declared.faults.HubFault.TheVariants as faults_of
 use Rattle.shared_desk.specs.Faults.{fault_of}
 use Rattle.shared_desk.specs.declared.finding.Tally.{Tally}
-use Rattle.shared_desk.specs.Finding.{messages_at, messages_found, messages_of, streams_at, streams_found, streams_of}
+use Rattle.shared_desk.specs.Finding.{messages_at, messages_of, streams_at, streams_of}
 use Rattle.shared_desk.specs.Hubs.{HubView, IsEquipped, IsHub}
 use Rattle.shared_desk.specs.Laying.{IsLaid}
 use Rattle.shared_desk.specs.Opening.{ComesBack, FailsToOpenHub, IsLocked, OpensHub, catalog_by}
@@ -77,10 +78,10 @@ module _ {P V : Type 0} (seen : P → Seen) where
         messages = messages ∙ same_sum (IsLocked seen hub.router.lock workers) _ (λ of. messages_at of.opening) (λ place of z. ap messages_at (sym z.opening)) row hub.places l.places;
       }
 
-  module _ (vol : P → V) (holds : Image → State → Type 0) (reads : V → Image → Type 0) (left : V → ℕ → Image → Type 0) (clock faults : V → ℕ)
+  module _ (vol : P → V) (holds : Image → State → Type 0) (reads : V → Image → Type 0) (left : V → ℕ → Image → Type 0) (clock faults : V → ℕ) (causes : RoomCauses V)
       (base : Option ℕ → V → State → Type 0) (opens : V → State → Type 0) (refuses : V → OpenFault → Type 0) (keeps : V → V → Type 0) where
-    pub opens_hub : (before : List V) (kept : Catalog) (workers : ℕ) (row : List P) (hub : HubView) (passes : List SharedScene) → AllZip (OpensOn seen vol holds reads left clock faults base opens refuses keeps) before row
-        → kept ≡ catalog_by seen row → IsApart kept → IsLaid seen kept workers row hub passes → OpensHub seen vol holds reads left clock faults base opens refuses keeps before workers hub passes
+    pub opens_hub : (before : List V) (kept : Catalog) (workers : ℕ) (row : List P) (hub : HubView) (passes : List SharedScene) → AllZip (OpensOn seen vol holds reads left clock faults causes base opens refuses keeps) before row
+        → kept ≡ catalog_by seen row → IsApart kept → IsLaid seen kept workers row hub passes → OpensHub seen vol holds reads left clock faults causes base opens refuses keeps before workers hub passes
     opens_hub before kept workers row hub passes opened is apart l = record {
       row = row;
       opened = opened;
@@ -95,24 +96,24 @@ module _ {P V : Type 0} (seen : P → Seen) where
       new = l.new;
     }
 
-    fails_so : (before : List V) (fault : HubFault V) → FailsToOpen seen vol holds reads left clock faults base opens refuses keeps before fault → FailsToOpenHub seen vol holds reads left clock faults base opens refuses keeps before fault
+    fails_so : (before : List V) (fault : HubFault V) → FailsToOpen seen vol holds reads left clock faults causes base opens refuses keeps before fault → FailsToOpenHub seen vol holds reads left clock faults causes base opens refuses keeps before fault
     fails_so before (faults_of.Open place why back) h = h
     fails_so before (faults_of.Conflict first second back) h = h
     fails_so before (faults_of.NoMemory back) h = inl h
 
     -- a place was not opened, which is handed on
-    pub unopened : {T : Type 0} (before : List V) (fault : HubFault V) (result : Result T (HubFault V)) → IsErrAnd result (λ e. e ≡ fault) → FailsToOpen seen vol holds reads left clock faults base opens refuses keeps before fault
-        → IfErr result (FailsToOpenHub seen vol holds reads left clock faults base opens refuses keeps before)
+    pub unopened : {T : Type 0} (before : List V) (fault : HubFault V) (result : Result T (HubFault V)) → IsErrAnd result (λ e. e ≡ fault) → FailsToOpen seen vol holds reads left clock faults causes base opens refuses keeps before fault
+        → IfErr result (FailsToOpenHub seen vol holds reads left clock faults causes base opens refuses keeps before)
     unopened before fault (Ok value) is h = absurd is
-    unopened before fault (Err e) is h = subst (FailsToOpenHub seen vol holds reads left clock faults base opens refuses keeps before) (sym is) (fails_so before fault h)
+    unopened before fault (Err e) is h = subst (FailsToOpenHub seen vol holds reads left clock faults causes base opens refuses keeps before) (sym is) (fails_so before fault h)
 
     -- there is no catalog
-    pub uncataloged : (before : List V) (row : List P) (stop : Uncataloged) (vols : Vec V) → AllZip (OpensOn seen vol holds reads left clock faults base opens refuses keeps) before row
-        → IsUncataloged (map kept_in (places_by seen row)) stop → vols.items ≡ map vol row ++ reverse [] → FailsToOpenHub seen vol holds reads left clock faults base opens refuses keeps before (fault_of stop vols)
+    pub uncataloged : (before : List V) (row : List P) (stop : Uncataloged) (vols : Vec V) → AllZip (OpensOn seen vol holds reads left clock faults causes base opens refuses keeps) before row
+        → IsUncataloged (map kept_in (places_by seen row)) stop → vols.items ≡ map vol row ++ reverse [] → FailsToOpenHub seen vol holds reads left clock faults causes base opens refuses keeps before (fault_of stop vols)
     uncataloged before row (stops.Conflict first second) vols opened h back = record { row = row; lets_go = record { opened = opened; after_are = back ∙ append-nil (map vol row) }; conflict = h }
     uncataloged before row stops.NoMemory vols opened h back = inl (inr (row, record { opened = opened; after_are = back ∙ append-nil (map vol row) }))
 
     -- there is no memory for a lock
-    pub unlocked : (before : List V) (row back : List P) (vols : Vec V) → AllZip (OpensOn seen vol holds reads left clock faults base opens refuses keeps) before row
-        → AllZip (ComesBack seen vol holds reads left clock faults base opens refuses keeps) row back → vols.items ≡ map vol back ++ reverse [] → FailsToOpenHub seen vol holds reads left clock faults base opens refuses keeps before (faults_of.NoMemory vols)
+    pub unlocked : (before : List V) (row back : List P) (vols : Vec V) → AllZip (OpensOn seen vol holds reads left clock faults causes base opens refuses keeps) before row
+        → AllZip (ComesBack seen vol holds reads left clock faults causes base opens refuses keeps) row back → vols.items ≡ map vol back ++ reverse [] → FailsToOpenHub seen vol holds reads left clock faults causes base opens refuses keeps before (faults_of.NoMemory vols)
     unlocked before row back vols opened came given = inr (record { row = row; opened = opened; back = back; came = came; after_are = given ∙ append-nil (map vol back) })

@@ -7,6 +7,7 @@ use Rattle.js_model.specs.Catalog.{Catalog, catalog_of}
 use Rattle.catalog.specs.Apart.{IsApart}
 use Rattle.place_engine.specs.Stepping.{Image, Seen}
 use Rattle.place_engine.specs.declared.faults.OpenFault.{OpenFault}
+use Rattle.place_engine.specs.Preparing.{RoomCauses}
 use Rattle.js_api.specs.Worlds.{kept_in}
 use Rattle.histories.specs.Entries.{OfPlace, OfRouter, OfCatalog}
 use Rattle.turn_lock.specs.Seats.{LockView, SeatView}
@@ -30,14 +31,14 @@ pub record IsLocked {P : Type 0} (seen : P → Seen) (router : TableId) (workers
   pub seats : of.seats ≡ workers
 
 -- Of a kind of place: what contracts see of it, its volume, which state an image holds, what reads of a volume give and what a crash may have left of it, its
--- moment and its faults, which states it may hold, to which states a place may be opened on it and why not, and what a call may make of it.
-module _ {P V : Type 0} (seen : P → Seen) (vol : P → V) (holds : Image → State → Type 0) (reads : V → Image → Type 0) (left : V → ℕ → Image → Type 0) (clock faults : V → ℕ)
+-- moment, its faults and why there may be no room, which states it may hold, to which states a place may be opened on it and why not, and what a call may make of it.
+module _ {P V : Type 0} (seen : P → Seen) (vol : P → V) (holds : Image → State → Type 0) (reads : V → Image → Type 0) (left : V → ℕ → Image → Type 0) (clock faults : V → ℕ) (causes : RoomCauses V)
     (base : Option ℕ → V → State → Type 0) (opens : V → State → Type 0) (refuses : V → OpenFault → Type 0) (keeps : V → V → Type 0) where
   -- A place was opened on each volume, no two of their streams share a name or have subjects that meet, and the histories of the hub open so. Each
   -- worker has a pass, which has seen nothing, and these are all passes of the hub.
   pub record OpensHub (before : List V) (workers : ℕ) (hub : HubView) (passes : List SharedScene) : Type 0 where
     pub row : List P
-    pub opened : AllZip (OpensOn seen vol holds reads left clock faults base opens refuses keeps) before row
+    pub opened : AllZip (OpensOn seen vol holds reads left clock faults causes base opens refuses keeps) before row
     pub apart : IsApart (catalog_by seen row)
     pub router : hub.router.opening ≡ OfRouter
     pub router_seats : hub.router.seats ≡ workers + length row
@@ -50,7 +51,7 @@ module _ {P V : Type 0} (seen : P → Seen) (vol : P → V) (holds : Image → S
 
   -- it was opened on some volume
   abbrev pub WasOpened : P → Type 0
-  WasOpened place = (before : V) × OpensOn seen vol holds reads left clock faults base opens refuses keeps before place
+  WasOpened place = (before : V) × OpensOn seen vol holds reads left clock faults causes base opens refuses keeps before place
 
   -- ---- where memory ran out for a lock
 
@@ -63,13 +64,13 @@ module _ {P V : Type 0} (seen : P → Seen) (vol : P → V) (holds : Image → S
   -- all places were opened, and their locks were ended again
   pub record UnlocksAll (before after : List V) : Type 0 where
     pub row : List P
-    pub opened : AllZip (OpensOn seen vol holds reads left clock faults base opens refuses keeps) before row
+    pub opened : AllZip (OpensOn seen vol holds reads left clock faults causes base opens refuses keeps) before row
     pub back : List P
     pub came : AllZip ComesBack row back
     pub after_are : after ≡ map vol back
 
   -- as a desk of one caller does; or memory ran out for a lock
   abbrev pub FailsToOpenHub : List V → HubFault V → Type 0
-  FailsToOpenHub before (Open place fault back) = FailsToOpen seen vol holds reads left clock faults base opens refuses keeps before (Open place fault back)
-  FailsToOpenHub before (Conflict first second back) = FailsToOpen seen vol holds reads left clock faults base opens refuses keeps before (Conflict first second back)
-  FailsToOpenHub before (NoMemory back) = FailsToOpen seen vol holds reads left clock faults base opens refuses keeps before (NoMemory back) ⊎ UnlocksAll before back.items
+  FailsToOpenHub before (Open place fault back) = FailsToOpen seen vol holds reads left clock faults causes base opens refuses keeps before (Open place fault back)
+  FailsToOpenHub before (Conflict first second back) = FailsToOpen seen vol holds reads left clock faults causes base opens refuses keeps before (Conflict first second back)
+  FailsToOpenHub before (NoMemory back) = FailsToOpen seen vol holds reads left clock faults causes base opens refuses keeps before (NoMemory back) ⊎ UnlocksAll before back.items

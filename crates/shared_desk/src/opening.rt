@@ -57,7 +57,7 @@ fn lock_place<P: Place>(
     port: Seat<RouterKind>,
     callers: u32,
 ) -> Result<Dealt<HubPlace<P>, PlaceKind<P>>, (P, Seat<RouterKind>)>
-    requires opened { WasOpened P.seen P.vol P.holds P.reads P.left P.clock P.faults P.base P.opens P.refuses P.keeps_vol place }
+    requires opened { WasOpened P.seen P.vol P.holds P.reads P.left P.clock P.faults P.room_causes P.base P.opens P.refuses P.keeps_vol place }
     requires new { IsNewPort port }
     requires callers { (0 < callers) × (callers ≤ 33) }
     ensures dealt { IfOk result (λ d. IsDealt (opening_of (P.seen place).place port) callers d.lock d.seats.items) }
@@ -97,7 +97,7 @@ fn lock_places<P: Place>(
     locks: &mut Vec<LockedPlace<P>>,
     rows: &mut Vec<Row<P>>,
 ) -> Result<(), NoMemory>
-    requires opened { AllByRecursion (WasOpened P.seen P.vol P.holds P.reads P.left P.clock P.faults P.base P.opens P.refuses P.keeps_vol) places.old.items }
+    requires opened { AllByRecursion (WasOpened P.seen P.vol P.holds P.reads P.left P.clock P.faults P.room_causes P.base P.opens P.refuses P.keeps_vol) places.old.items }
     requires new { AllByRecursion IsNewPort ports.old.items }
     requires enough { length places.old.items ≤ length ports.old.items }
     requires callers { (0 < callers) × (callers ≤ 33) }
@@ -108,7 +108,7 @@ fn lock_places<P: Place>(
     ensures locked { OnOk result (LocksAll P.seen callers places.old.items ports.old.items ports.new.items locks.new.items) }
     ensures emptied { OnOk result (places.new.items ≡ []) }
     ensures dealt { OnOk result (map (λ row. row.items) rows.new.items ≡ rows_of locks.new.items callers) }
-    ensures back { IfErr result (λ _. AllZip (ComesBack P.seen P.vol P.holds P.reads P.left P.clock P.faults P.base P.opens P.refuses P.keeps_vol) places.old.items places.new.items) }
+    ensures back { IfErr result (λ _. AllZip (ComesBack P.seen P.vol P.holds P.reads P.left P.clock P.faults P.room_causes P.base P.opens P.refuses P.keeps_vol) places.old.items places.new.items) }
     ensures ports { IfErr result (λ _. AllZip IsSameSeat ports.old.items ports.new.items) }
     ensures none { IfErr result (λ _. locks.new.items ≡ []) }
     ensures room { (vec_capacity places.new ≡ vec_capacity places.old) × (vec_capacity ports.new ≡ vec_capacity ports.old) × (vec_capacity locks.new ≡ vec_capacity locks.old) }
@@ -215,12 +215,12 @@ fn lay<P: Place>(
     callers: u32,
 ) -> Option<Laid<P>>
     requires catalog { (kept : List KeptPlace) × (catalog ≡ catalog_of kept) }
-    requires opened { AllByRecursion (WasOpened P.seen P.vol P.holds P.reads P.left P.clock P.faults P.base P.opens P.refuses P.keeps_vol) places.old.items }
+    requires opened { AllByRecursion (WasOpened P.seen P.vol P.holds P.reads P.left P.clock P.faults P.room_causes P.base P.opens P.refuses P.keeps_vol) places.old.items }
     requires few { length places.old.items ≤ 32 }
     requires callers { (0 < callers) × (callers ≤ 33) }
     ensures laid { IfSome result (λ l. IsLaid P.seen catalog callers places.old.items (record { router = l.router; catalog = l.catalog; places = l.places.items }) l.passes.items) }
     ensures emptied { IfSome result (λ _. places.new.items ≡ []) }
-    ensures back { result ≡ None → AllZip (ComesBack P.seen P.vol P.holds P.reads P.left P.clock P.faults P.base P.opens P.refuses P.keeps_vol) places.old.items places.new.items }
+    ensures back { result ≡ None → AllZip (ComesBack P.seen P.vol P.holds P.reads P.left P.clock P.faults P.room_causes P.base P.opens P.refuses P.keeps_vol) places.old.items places.new.items }
     ensures room { vec_capacity places.new ≡ vec_capacity places.old }
 {
     let count = places.len();
@@ -284,8 +284,8 @@ impl<P: Place> Hub<P> {
     ) -> Result<(Hub<P>, Vec<Pass<P>>), HubFault<P::Vol>>
         requires few { length vols.items ≤ 32 }
         requires callers { (0 < callers) × (callers ≤ 33) }
-        ensures opened { IfOk result (λ r. OpensHub P.seen P.vol P.holds P.reads P.left P.clock P.faults P.base P.opens P.refuses P.keeps_vol vols.items callers r.0 r.1.items) }
-        ensures err { IfErr result (FailsToOpenHub P.seen P.vol P.holds P.reads P.left P.clock P.faults P.base P.opens P.refuses P.keeps_vol vols.items) }
+        ensures opened { IfOk result (λ r. OpensHub P.seen P.vol P.holds P.reads P.left P.clock P.faults P.room_causes P.base P.opens P.refuses P.keeps_vol vols.items callers r.0 r.1.items) }
+        ensures err { IfErr result (FailsToOpenHub P.seen P.vol P.holds P.reads P.left P.clock P.faults P.room_causes P.base P.opens P.refuses P.keeps_vol vols.items) }
     {
         let (places, vols) = open_places(alloc, vols)?;
         let mut places = places;

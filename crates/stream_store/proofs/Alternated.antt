@@ -14,11 +14,13 @@ use Rattle.gate_log.specs.LogFile.{HasOpen}
 use Rattle.gate_log.specs.LogState.{LogState, generation_of, new_log, with_batch}
 use Rattle.gate_log.specs.Settled.{IsSettled}
 use Rattle.gate_log.specs.Starting.{Starts, IsEmptied}
+use Rattle.gate_log.proofs.OneReading.{none_shut}
 use Rattle.effects.specs.declared.durable.Durable.{Durable}
 use Rattle.effects.specs.declared.effect.Effect.{Effect}
 use Rattle.op_records.specs.Laws.{IsBatch}
 use Rattle.block_table.specs.declared.block.Block.{Block}
 use Rattle.block_table.specs.Blocks.{Blocks, blocks, has_block}
+use Rattle.block_table.specs.Closing.{closed}
 use Rattle.block_table.specs.Tables.{IsFile, IsTable}
 use Rattle.block_reading.specs.Standing.{AreStoredIn}
 use Rattle.block_writing.specs.Planning.{Planned, spots_in}
@@ -36,7 +38,7 @@ use Rattle.stream_store.specs.Logs.{LogIn, HasLog, is_first}
 use Rattle.stream_store.specs.Steps.{steps_of, with_steps}
 use Rattle.stream_store.proofs.Basing.{IsNow, base_gives, base_of, holds_now, now_of}
 use Rattle.stream_store.proofs.Blocks.{firm_blocks, same_fronts, stored_moved}
-use Rattle.stream_store.proofs.Committing.{IsPlanned, OneOfBoth, durable_by, firm_late, given_next, here, log_low, rests_low, settled_by, stand_new, starts, stored_base, stored_late, stored_next, used_new, writing_leaves}
+use Rattle.stream_store.proofs.Committing.{IsPlanned, OneOfBoth, durable_by, firm_late, given_next, log_low, rests_low, settled_by, stand_new, starts, stored_base, stored_late, stored_next, table_after, used_new, writing_leaves}
 use Rattle.stream_store.proofs.Unused.{behind_among}
 
 -- ---- two files
@@ -178,6 +180,9 @@ module _ (log : LogState) (b : Blocks) (base : Durable) (old : Disk) (k : IsBase
   low : log.file < 2
   low = log_low log b base old k
 
+  pub some_other_of : (l : LogIn) × HasLog (old.seen (other_file log.file)) l
+  some_other_of = some_other log batches old.seen now
+
   pub durable_log : (file : ℕ) → file < 2 → IsDurable old file
   durable_log file h = go (one_of_two file h)
     where
@@ -255,7 +260,7 @@ module _ (log : LogState) (b : Blocks) (base next : Durable) (effects : List Eff
     (mid : Disk) (changes : ChangesRuns made.runs old mid) (has : HasStored b effects made.records old mid) (honest : IsHonest mid)
     (g : ℕ) (gen : generation_of log ≡ Some g) (into : LogState) (into_is : into ≡ new_log (other_file log.file) (Some (g + 1))) (empty : IsSettled into [] old) where
   abbrev after : Blocks
-  after = with_steps (steps_of effects (spots_in made.records)) b
+  after = closed (with_steps (steps_of effects (spots_in made.records)) b)
 
   k : IsBaseOf log b base old
   k = w.base_is
@@ -282,16 +287,13 @@ module _ (log : LogState) (b : Blocks) (base next : Durable) (effects : List Eff
   log_left image e =
       durable_log log b base old k log.file log_file_low (image log.file) (rests_log.leaves (image log.file) (e log.file (λ is. other_apart log.file log_file_low (sym is))))
 
-  table_after : IsTable after
-  table_after = (here log b base next effects made old w mid changes has).state.table
-
   module _ (records : Bytes) (are : records ≡ first_batch next after) (few : IsBatch records) where
     -- the batch begins a log that gives what is next
     begins : Begins records (logged next after)
     begins =
         let same : snapshot_in (logged next after) ≡ records = ap spelled_snapshot (law_begins.unread next after) ∙ sym are in
         subst (λ (l : Bytes). Begins l (logged next after)) same
-        (law_begins.begins (logged next after) (given_next log b base next effects made old w mid changes has) (record { table = table_after; storable = (law_unread.storable next).1 w.next_is.storable })
+        (law_begins.begins (logged next after) (given_next log b base next effects made old w mid changes has) (record { table = table_after log b base next effects made old w mid changes has; storable = (law_unread.storable next).1 w.next_is.storable })
         (subst IsBatch (sym same) few))
 
     gives_next : Gives (records ∷ []) (logged next after)
@@ -308,7 +310,7 @@ module _ (log : LogState) (b : Blocks) (base next : Durable) (effects : List Eff
     one_of_both image (inl without) e =
         inl (
           b,
-          holds_now log k.settled.0 image b base (with_none log k.settled.0 old.seen image g now_old gen (log_left image e) nothing_open (inr (g + 1, without)) refl) k.begun
+          holds_now log k.settled.0 image b base (with_none log k.settled.0 old.seen image g now_old gen (log_left image e) nothing_open (inr (none_shut (image (other_file log.file)) (g + 1) without)) refl) k.begun
               (base_gives log k.settled.0 old b base k k.settled.1)
               (stored_base log b base next effects made old w mid changes has honest image (other_file log.file) (other_low log.file) e) k.holds.openable,
         )
@@ -363,7 +365,7 @@ module _ (log : LogState) (b : Blocks) (base next : Durable) (effects : List Eff
         next_base =
             base_of made_log (records ∷ []) late after next now_late settled (subst IsSome (sym made_gen) refl) durable_late.0 durable_late.1 gives_next
             (record {
-              table = table_after;
+              table = table_after log b base next effects made old w mid changes has;
               stand = firm_blocks after late (firm_late log b base next effects made old w mid changes has late (other_file log.file) (other_low log.file) elsewhere honest);
               storable = w.next_is.storable;
               given = given_next log b base next effects made old w mid changes has;

@@ -12,20 +12,17 @@ use Rattle.effects.specs.Folding.{fold_all}
 use Rattle.gate_log.specs.LogState.{LogState, generation_of, new_log}
 use Rattle.gate_log.specs.Settled.{IsSettled}
 use Rattle.gate_log.specs.Starting.{Starts}
-use Rattle.block_table.specs.declared.block.Block.{Block}
 use Rattle.block_table.specs.Blocks.{Blocks}
-use Rattle.block_writing.specs.Dropping.{ChangesUnused}
-use Rattle.stream_store.specs.Alternating.{IsLong, IsWorn, begun_next, first_length, longest, next_length, other_file}
+use Rattle.stream_store.specs.Alternating.{IsLong, IsWorn, begun_next, longest, other_file}
 use Rattle.stream_store.specs.Base.{IsBaseOf, KeepsBaseOf, LeavesBaseOf}
 use Rattle.stream_store.specs.Committing.{EmptiesUnused, IsNextBatch}
 use Rattle.stream_store.specs.Holding.{Holds}
-use Rattle.stream_store.specs.Placing.{blocks_then}
-use Rattle.stream_store.specs.Staging.{AreBehindLogs, IsStagedFirst}
+use Rattle.stream_store.specs.Staging.{IsStagedFirst}
 use Rattle.stream_store.specs.StoreState.{StoreState}
 use Rattle.stream_store.specs.Writing.{IsStagedFor, IsStagedNext}
 use Rattle.stream_store.specs.declared.staging.Staged.{Staged}
 use Rattle.stream_store.proofs.Alternated.{other_low, started_base, starting_keeps}
-use Rattle.stream_store.proofs.Committing.{OneOfBoth, kept_used, settled_by}
+use Rattle.stream_store.proofs.Committing.{OneOfBoth}
 use Rattle.stream_store.proofs.OneReading.{holds_same}
 use Rattle.stream_store.proofs.StagedNext.{some_in}
 use Rattle.stream_store.proofs.Unused.{rests_after}
@@ -41,21 +38,18 @@ same_next log b old effects base other next there is too n m =
 pub begun_is : (log into : LogState) (generation : ℕ) → into ≡ new_log (other_file log.file) (Some (generation + 1)) → log.head ≡ Some generation → into ≡ begun_next log
 begun_is log into generation is head = is ∙ ap (λ (o : Option ℕ). new_log (other_file log.file) (option_map (λ x. x + 1) o)) (sym head)
 
--- what is staged, once the blocks that were left over are dropped
-pub staged_next : (log : LogState) (b : Blocks) (base next : Durable) (effects : List Effect) (there : Durable) (staged : Staged) (into : LogState) (generation : ℕ) (started begun : Disk) (ks : List Block)
-    → IsBaseOf log b base begun → IsNextBatch base effects next → next ≡ there → IsStagedFirst b effects there staged → into ≡ new_log (other_file log.file) (Some (generation + 1)) → log.head ≡ Some generation → IsSettled into [] started
-    → AreBehindLogs ks → ChangesUnused b ks started begun → IsStagedNext log b base next staged into begun
-staged_next log b base next effects there staged into generation started begun ks is is_next same s into_is head empty behind changes =
-    let file : into.file ≡ other_file log.file = ap (λ (l : LogState). l.file) into_is in
-    let low = other_low log.file in
-    record {
-      effects = effects;
-      base_is = is;
-      next_is = is_next;
-      staged_is = subst (λ (d : Durable). IsStagedFirst b effects d staged) (sym same) s;
-      into_is = begun_is log into generation into_is head;
-      empty = settled_by into [] started begun (changes.elsewhere into.file (kept_used b ks into.file behind (inl (omega (arith, low, file))))) empty;
-    }
+-- what is staged, for the log that was started
+pub staged_next : (log : LogState) (b : Blocks) (base next : Durable) (effects : List Effect) (there : Durable) (staged : Staged) (into : LogState) (generation : ℕ) (started : Disk) → IsBaseOf log b base started
+    → IsNextBatch base effects next → next ≡ there → IsStagedFirst b effects there staged → into ≡ new_log (other_file log.file) (Some (generation + 1)) → log.head ≡ Some generation → IsSettled into [] started
+    → IsStagedNext log b base next staged into started
+staged_next log b base next effects there staged into generation started is is_next same s into_is head empty = record {
+  effects = effects;
+  base_is = is;
+  next_is = is_next;
+  staged_is = subst (λ (d : Durable). IsStagedFirst b effects d staged) (sym same) s;
+  into_is = begun_is log into generation into_is head;
+  empty = empty;
+}
 
 module _ (log : LogState) (b : Blocks) (base next : Durable) (old started : Disk) (is : IsBaseOf log b base old) (keeps : LeavesBaseOf log b old started) where
   pub start_leaves : LeavesOnly old started (OneOfBoth base next)
@@ -91,11 +85,6 @@ started_on (Err fault) log generation old mid s is settled = tt
 pub into_low : (into : LogState) (staged : Staged) (disk : Disk) → IsStagedFor into staged disk → into.file < 2
 into_low into staged disk (log, b, base, next, t) = subst (λ (n : ℕ). n < 2) (sym (ap (λ (l : LogState). l.file) t.into_is)) (other_low log.file)
 
-pub next_size : (store : StoreState) (effects : List Effect) (next : Durable) (b : Blocks) → b ≡ store.blocks → next_length store effects next ≡ 30 + first_length next (blocks_then b effects)
-next_size store effects next b same =
-    let size : next_length store effects next ≡ 30 + first_length next (blocks_then store.blocks effects) = omega arith in
-    size ∙ ap (λ (x : Blocks). 30 + first_length next (blocks_then x effects)) (sym same)
-
 -- ---- generations
 
 -- that of the log in its head, 0 if it has none, does not fall where the log stays, or where another one has the next generation
@@ -123,24 +112,16 @@ always_ok (Err fault) a = tt
 
 -- ---- long logs
 
-pub passes_is : (first_end end count long len : ℕ) → first_end < end → long ≡ longest first_end → len ≡ min (min (end + 10) (2 ^ 64 - 1) + count) (2 ^ 64 - 1)
-    → IsTrue (nat_lt long len) ↔ ((first_end < end) × (longest first_end < end + 10 + count))
-passes_is first_end end count long len later is size = (
-  λ passes. let lt = ltb-true long len passes in (later, omega (arith, lt, is, size)),
-  λ both. lt-ltb long len (let lt = both.1 in omega (arith, lt, is, size)),
-)
+pub passes_is : (end count len sum : ℕ) → len ≤ 2 ^ 31 → sum ≡ min (min (end + 10) (2 ^ 64 - 1) + count) (2 ^ 64 - 1) → IsTrue (nat_lt len sum) ↔ (len < end + 10 + count)
+passes_is end count len sum small is = (λ passes. let lt = ltb-true len sum passes in omega (arith, lt, is), λ lt. lt-ltb len sum (omega (arith, lt, is, small)))
 
-pub long_is : (log : LogState) (count first_end end : ℕ) (result : Bool) → first_end ≡ log.first_end → end ≡ log.end → IsTrue result ↔ ((first_end < end) × (longest first_end < end + 10 + count)) → IsTrue result ↔ IsLong log count
-long_is log count first_end end result first last both = (
-  λ is.
-      let p = both.0 is in
-      record {
-        later = subst (λ (n : ℕ). n < log.end) first (subst (λ (n : ℕ). first_end < n) last p.0);
-        long = subst (λ (n : ℕ). longest n < log.end + 10 + count) first (subst (λ (n : ℕ). longest first_end < n + 10 + count) last p.1);
-      },
-  λ long.
-      both.1 (
-        subst (λ (n : ℕ). n < end) (sym first) (subst (λ (n : ℕ). log.first_end < n) (sym last) long.later),
-        subst (λ (n : ℕ). longest n < end + 10 + count) (sym first) (subst (λ (n : ℕ). longest log.first_end < n + 10 + count) (sym last) long.long),
-      ),
+pub not_last : (log : LogState) (generation : ℕ) → log.head ≡ Some generation → ¬ IsWorn log → generation + 1 < 2 ^ 62
+not_last log generation head fresh =
+    let refused : ¬ (2 ^ 62 ≤ generation + 1) = λ le. fresh (is_worn log generation head le) in
+    omega (arith, refused)
+
+pub long_is : (log : LogState) (count bound end most : ℕ) (passes : Bool) → log.first_end < log.end → end ≡ log.end → most ≡ longest bound → (IsTrue passes ↔ (most < end + 10 + count)) → IsTrue passes ↔ IsLong log count bound
+long_is log count bound end most passes later end_is most_is value = (
+  λ is. let long = value.0 is in record { later = later; long = omega (arith, long, end_is, most_is) },
+  λ long. let more = long.long in value.1 (omega (arith, more, end_is, most_is)),
 )

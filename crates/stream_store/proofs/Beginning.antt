@@ -1,5 +1,5 @@
 -- The first log of a volume.
-use Rattle.std.proofs.Common.{◌≡◌, ◌⊎◌, inl, inr, ℕ, ◌<◌, ◌≤◌, ◌+◌, ◌^◌, max, Bool, true, false, cond, [], ◌∷◌, Option, Some, None, IfSome, length, refl, sym, ap, subst, ◌∙◌, arith}
+use Rattle.std.proofs.Common.{◌≡◌, ◌⊎◌, inl, inr, ℕ, ◌<◌, ◌≤◌, ◌^◌, max, Bool, true, false, cond, [], ◌∷◌, Option, Some, None, IfSome, length, refl, sym, ap, subst, ◌∙◌, arith}
 use Rattle.std.specs.Prelude.{IsSome, All, ◌==◌}
 use Rattle.js_model.proofs.Named.{none_some}
 use Rattle.vol_disk.specs.Clock.{IsClocked}
@@ -14,7 +14,8 @@ use Rattle.js_base.specs.Bytes.{Bytes}
 use Rattle.gate_log.specs.LogFile.{IsLog, HasOpen}
 use Rattle.gate_log.specs.LogState.{LogState, generation_of, new_log, with_batch}
 use Rattle.gate_log.specs.Settled.{IsSettled}
-use Rattle.gate_log.specs.Growing.{GrowsTo}
+use Rattle.gate_log.specs.Growing.{GrowsTo, KeepsOpen, LeavesOpen, StaysAsLong}
+use Rattle.gate_log.proofs.OneReading.{none_shut}
 use Rattle.gate_log.specs.Starting.{Starts, IsEmptied}
 use Rattle.gate_log.specs.Appending.{IsWithOrWithout, AppendsTo, IsAppended}
 use Rattle.effects.specs.declared.durable.Durable.{Durable}
@@ -23,6 +24,7 @@ use Rattle.op_records.specs.Spelling.{spelled_vacant}
 use Rattle.op_records.specs.Laws.{IsBatch}
 use Rattle.state_snapshot.specs.Spelling.{spelled_snapshot}
 use Rattle.block_table.specs.Blocks.{no_blocks}
+use Rattle.block_table.specs.Tables.{IsFile}
 use Rattle.block_table.proofs.Tables.{table_none}
 use Rattle.log_records.specs.Batches.{Begins, Gives}
 use Rattle.log_records.specs.Laws.{snapshot_in}
@@ -37,7 +39,7 @@ use Rattle.stream_store.proofs.Basing.{IsNow, IsStoredBase, base_of}
 use Rattle.stream_store.proofs.Blocks.{IsFirm, firm_blocks}
 use Rattle.stream_store.specs.Untouched.{IsUntouched}
 use Rattle.stream_store.proofs.OneReading.{holds_same}
-use Rattle.stream_store.proofs.Vacant.{first_within, holds_nothing, nothing_stored, others_empty, untouched_image, vacant_logged, vacant_opens, vacant_storable}
+use Rattle.stream_store.proofs.Vacant.{first_within, holds_nothing, nothing_stored, others_empty, untouched_image, untouched_seen, vacant_logged, vacant_opens, vacant_storable}
 
 -- ---- a vacant place
 
@@ -92,28 +94,58 @@ module _ (old : Disk) (u : IsUnbegun old) where
       (record { in_zero = emptied u.none.zero.generation u.none.zero.batches u.none.logs.in_zero; in_one = subst (λ (l : Bytes). HasLog l u.none.one) (sym (one_stays image e)) u.none.logs.in_one })
       refl u.none.none_in_one (still_untouched image short e)
 
-  pub starting : (mid : Disk) → Starts 0 old mid → GrowsTo 0 21 old mid → HoldsNothing old mid
-  starting mid s grows =
-      widened old mid (λ image. Holds image (vacant 0)) (λ image. (((image 0 ≡ old.seen 0) ⊎ IsEmptied (old.seen 0) (image 0)) × Elsewhere 0 old image) × (length (image 0) ≤ max 21 (length (old.seen 0))))
-      (both_left old mid (λ image. ((image 0 ≡ old.seen 0) ⊎ IsEmptied (old.seen 0) (image 0)) × Elsewhere 0 old image) (λ image. length (image 0) ≤ max 21 (length (old.seen 0))) s.any_moment grows)
+  pub starting : (mid : Disk) → Starts 0 old mid → StaysAsLong 0 old mid → HoldsNothing old mid
+  starting mid s stays =
+      widened old mid (λ image. Holds image (vacant 0)) (λ image. (((image 0 ≡ old.seen 0) ⊎ IsEmptied (old.seen 0) (image 0)) × Elsewhere 0 old image) × (length (image 0) ≡ length (old.seen 0)))
+      (both_left old mid (λ image. ((image 0 ≡ old.seen 0) ⊎ IsEmptied (old.seen 0) (image 0)) × Elsewhere 0 old image) (λ image. length (image 0) ≡ length (old.seen 0)) s.any_moment stays)
       (λ image h. let first = first_within old.seen u.untouched in let size = h.1 in starting_holds image h.0.0 (omega (arith, first, size)) h.0.1)
+
+  -- as room is made for it
+  pub making_room : (mid : Disk) → LeavesOpen 0 old mid → GrowsTo 0 39 old mid → HoldsNothing old mid
+  making_room mid leaves grows =
+      widened old mid (λ image. Holds image (vacant 0)) (λ image. (KeepsOpen (old.seen 0) (image 0) × Elsewhere 0 old image) × (length (image 0) ≤ max 39 (length (old.seen 0))))
+      (both_left old mid (λ image. KeepsOpen (old.seen 0) (image 0) × Elsewhere 0 old image) (λ image. length (image 0) ≤ max 39 (length (old.seen 0))) leaves.any_moment grows)
+      (λ image h.
+      let first = first_within old.seen u.untouched in
+      let size = h.1 in
+      holds_none image u.none.zero u.none.one
+      (record { in_zero = h.0.0 u.none.zero.generation u.none.zero.batches u.none.logs.in_zero; in_one = subst (λ (l : Bytes). HasLog l u.none.one) (sym (one_stays image h.0.1)) u.none.logs.in_one })
+      u.none.none_in_zero u.none.none_in_one (still_untouched image (omega (arith, first, size)) h.0.1))
+
+  -- and then
+  pub unbegun_with_room : (mid : Disk) → LeavesOpen 0 old mid → KeepsOpen (old.seen 0) (mid.seen 0) → IsDurable mid 0 → length (mid.seen 0) ≤ max 39 (length (old.seen 0)) → IsUnbegun mid
+  unbegun_with_room mid leaves keeps firm size =
+      let one = leaves.elsewhere 1 (λ is. absurd (omega arith)) in
+      let first = first_within old.seen u.untouched in
+      record {
+        none = record {
+          zero = u.none.zero;
+          one = u.none.one;
+          logs = record { in_zero = keeps u.none.zero.generation u.none.zero.batches u.none.logs.in_zero; in_one = subst (λ (l : Bytes). HasLog l u.none.one) (sym one.seen) u.none.logs.in_one };
+          none_in_zero = u.none.none_in_zero;
+          none_in_one = u.none.none_in_one;
+        };
+        durable_zero = firm;
+        durable_one = λ bytes left. u.durable_one bytes (one.leaves bytes left) ∙ sym one.seen;
+        untouched = untouched_seen old.seen mid.seen u.untouched (λ file apart. (leaves.elsewhere file apart).seen) (omega (arith, first, size));
+        gone = λ file is bytes left. u.gone file is bytes ((leaves.elsewhere file (λ same. absurd (not_first file is same))).leaves bytes left);
+      }
+    where
+      not_first : (file : ℕ) → IsFile file → file ≡ 0 → ⊥
+      not_first file is same = let low = is.low in omega (arith, low, same)
 
   -- where nothing is written
   pub unbegun_stays : IsClocked old → HoldsNothing old old
   unbegun_stays clocked = started old (λ image. Holds image (vacant 0)) clocked (λ image is. let same = u.durable_zero (image 0) (is.left 0) in starting_holds image (inl same) (subst (λ (l : Bytes). length l ≤ 39) (sym same) (first_within old.seen u.untouched)) (λ file apart. is.left file))
 
   -- as its first batch is appended
-  module _ (mid : Disk) (s : Starts 0 old mid) (grows : GrowsTo 0 21 old mid) (size : length (mid.seen 0) ≤ 21) (log : LogState) (log_is : log ≡ new_log 0 (Some 1)) (settled : IsSettled log [] mid) (records : Bytes) (records_are : records ≡ spelled_vacant 0) (bytes : All (λ byte. byte < 256) records) where
+  module _ (mid : Disk) (s : Starts 0 old mid) (stays : StaysAsLong 0 old mid) (size : length (mid.seen 0) ≡ length (old.seen 0)) (log : LogState) (log_is : log ≡ new_log 0 (Some 1)) (settled : IsSettled log [] mid) (records : Bytes) (records_are : records ≡ spelled_vacant 0) (bytes : All (λ byte. byte < 256) records) where
     rests : Rests 1 old mid
     rests = s.elsewhere 1 (λ is. absurd (omega arith))
 
     spelled_is : snapshot_in (beginning 0) ≡ spelled_vacant 0
     unfolding spelled_snapshot
     spelled_is = refl
-
-    nine : length records ≡ 9
-    unfolding spelled_vacant
-    nine = subst (λ (l : Bytes). length l ≡ 9) (sym records_are) (omega arith)
 
     short : length records < 2 ^ 32
     unfolding spelled_vacant
@@ -143,7 +175,7 @@ module _ (old : Disk) (u : IsUnbegun old) where
     appending_holds : (image : Files) → IsWithOrWithout 1 [] records (image 0) → length (image 0) ≤ 39 → Elsewhere 0 mid image → Holds image (vacant 0)
     appending_holds image (inl without) few e =
         holds_none image nothing_open u.none.one
-        (record { in_zero = inr (1, without); in_one = subst (λ (l : Bytes). HasLog l u.none.one) (sym (one_of image e)) u.none.logs.in_one })
+        (record { in_zero = inr (none_shut (image 0) 1 without); in_one = subst (λ (l : Bytes). HasLog l u.none.one) (sym (one_of image e)) u.none.logs.in_one })
         refl u.none.none_in_one (still_untouched image few (elsewhere_of image e))
     appending_holds image (inr longer) few e = (
       no_blocks,
@@ -158,15 +190,16 @@ module _ (old : Disk) (u : IsUnbegun old) where
       },
     )
 
-    pub appending : (new : Disk) → AppendsTo log records mid new → GrowsTo log.file (log.end + 10 + length records) mid new → HoldsNothing old new
+    pub appending : (new : Disk) → AppendsTo log records mid new → StaysAsLong log.file mid new → HoldsNothing old new
     appending new appends more =
         let a = appends [] settled in
         let moments = subst (λ (l : LogState). LeavesOnly mid new (λ image. IfSome l.head (λ g. IsWithOrWithout g [] records (image l.file)) × Elsewhere l.file mid image)) log_is a.any_moment in
-        let lengths = subst (λ (l : LogState). GrowsTo l.file (l.end + 10 + length records) mid new) log_is more in
-        joined old mid new (λ image. Holds image (vacant 0)) (λ image. (IsWithOrWithout 1 [] records (image 0) × Elsewhere 0 mid image) × (length (image 0) ≤ max (20 + 10 + length records) (length (mid.seen 0))))
-        (starting mid s grows)
-        (both_left mid new (λ image. IsWithOrWithout 1 [] records (image 0) × Elsewhere 0 mid image) (λ image. length (image 0) ≤ max (20 + 10 + length records) (length (mid.seen 0))) moments lengths)
-        (λ image h. let most = h.1 in appending_holds image h.0.0 (omega (arith, most, size, nine)) h.0.1)
+        let lengths = subst (λ (l : LogState). StaysAsLong l.file mid new) log_is more in
+        let first = first_within old.seen u.untouched in
+        joined old mid new (λ image. Holds image (vacant 0)) (λ image. (IsWithOrWithout 1 [] records (image 0) × Elsewhere 0 mid image) × (length (image 0) ≡ length (mid.seen 0)))
+        (starting mid s stays)
+        (both_left mid new (λ image. IsWithOrWithout 1 [] records (image 0) × Elsewhere 0 mid image) (λ image. length (image 0) ≡ length (mid.seen 0)) moments lengths)
+        (λ image h. let same = h.1 in appending_holds image h.0.0 (omega (arith, same, size, first)) h.0.1)
 
     pub begun : (after : LogState) (new : Disk) → AppendsTo log records mid new → IsAppended log after records mid new → after ≡ with_batch log (length records) → IsBaseOf after no_blocks (vacant 0) new
     unfolding spelled_vacant
@@ -193,6 +226,18 @@ module _ (old : Disk) (u : IsUnbegun old) where
       where
         generation_one : generation_of (with_batch (new_log 0 (Some 1)) (length records)) ≡ Some 1
         generation_one = ap (λ (l : Bytes). generation_of (with_batch (new_log 0 (Some 1)) (length l))) records_are ∙ refl
+
+-- ---- one call behind another
+
+pub vacant_length : (records : Bytes) → records ≡ spelled_vacant 0 → length records ≡ 9
+unfolding spelled_vacant
+vacant_length records are = subst (λ (l : Bytes). length l ≡ 9) (sym are) (omega arith)
+
+pub nothing_then : (old mid new : Disk) → HoldsNothing old mid → HoldsNothing mid new → HoldsNothing old new
+nothing_then old mid new first second = joined old mid new (λ image. Holds image (vacant 0)) (λ image. Holds image (vacant 0)) first second (λ image h. h)
+
+pub rests_with_room : (old mid new : Disk) → RestsBut 0 old mid → RestsBut 0 mid new → RestsBut 0 old new
+rests_with_room old mid new first second file apart = rests_on file old mid new (first file apart) (second file apart)
 
 -- ---- the other files
 

@@ -12,7 +12,7 @@ use Rattle.vol_disk.proofs.Moments.{empty_behind, joined, quiet, quiet_on, rests
 use Rattle.effects.specs.declared.durable.Durable.{Durable}
 use Rattle.block_table.specs.Blocks.{Blocks, has_block}
 use Rattle.message_block.specs.Changing.{ChangesOnly}
-use Rattle.stream_store.specs.Base.{IsBase}
+use Rattle.stream_store.specs.Base.{IsBaseOf}
 use Rattle.stream_store.specs.Clearing.{AreCleared, AreUsedLeft, IsCleared, IsUsed, Spares}
 use Rattle.stream_store.specs.Holding.{Holds}
 use Rattle.stream_store.specs.Opening.{KeepsHeld, RestsBut}
@@ -146,10 +146,10 @@ cleared_opening b old mid new = cleared_behind b 0 old mid new (omega arith)
 
 -- ---- what the volume holds
 
-pub keeps_base : (store : StoreState) (base : Durable) (old new : Disk) → Spares (IsUsed store.blocks) old new → IsBase store base old → IsBase store base new
+pub keeps_base : (store : StoreState) (base : Durable) (old new : Disk) → Spares (IsUsed store.blocks) old new → IsBaseOf store.log store.blocks base old → IsBaseOf store.log store.blocks base new
 keeps_base store base old new spares is = base_spared store.log store.blocks base old new is spares.used
 
-pub leaves_base : (store : StoreState) (base : Durable) (old new : Disk) → Spares (IsUsed store.blocks) old new → IsBase store base old → LeavesOnly old new (λ image. Holds image base)
+pub leaves_base : (store : StoreState) (base : Durable) (old new : Disk) → Spares (IsUsed store.blocks) old new → IsBaseOf store.log store.blocks base old → LeavesOnly old new (λ image. Holds image base)
 leaves_base store base old new spares is = spared_leaves store.log store.blocks base old new is spares.any_moment
 
 pub held_cleared : (store : StoreState) (base : Durable) (old mid new : Disk) → Holds old.seen base → KeepsHeld old mid → LeavesOnly mid new (λ image. Holds image base) → KeepsHeld old new

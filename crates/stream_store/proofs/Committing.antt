@@ -32,7 +32,9 @@ use Rattle.block_table.specs.declared.block.Block.{Block}
 use Rattle.block_table.specs.Blocks.{Blocks, blocks, has_block, is_among}
 use Rattle.block_table.specs.Placings.{placing}
 use Rattle.block_table.specs.Tables.{IsFile, IsTable}
+use Rattle.block_table.specs.Closing.{closed}
 use Rattle.block_table.proofs.Batches.{serves_first}
+use Rattle.block_table.proofs.Closing.{law_closed}
 use Rattle.block_reading.specs.Standing.{AreStoredIn, IsWhole, written_in}
 use Rattle.block_reading.proofs.Within.{follow_within}
 use Rattle.block_writing.specs.Dropping.{AreUsedKept, ChangesUnused, is_unused}
@@ -57,6 +59,7 @@ use Rattle.stream_store.specs.Logs.{is_first}
 use Rattle.stream_store.specs.Staging.{AreBehindLogs, DropsUnused}
 use Rattle.stream_store.specs.Steps.{steps_of, with_steps}
 use Rattle.stream_store.proofs.Basing.{IsNow, all_hold, base_begun, base_of, base_gives, has_logs_by, holds_by, holds_now, now_of, now_with}
+use Rattle.stream_store.proofs.Closing.{all_closed, stored_closed}
 use Rattle.stream_store.proofs.Blocks.{IsFirm, IsSame, firm_blocks, same_fronts, stored_moved}
 use Rattle.stream_store.proofs.Folding.{AreNext, goes_on_by}
 use Rattle.stream_store.proofs.Recorded.{IsEnd, IsState, all_states}
@@ -172,9 +175,12 @@ module _ (log : LogState) (b : Blocks) (base next : Durable) (effects : List Eff
   writing_leaves mid changes =
       widened old mid (OneOfBoth base next) (KeepsBlocks b old) (law_plans.kept b effects made old mid w.planned w.base_is.stand changes) (λ image h. inl (keeps_base image h))
 
-  -- where the messages lie then
+  -- where the messages lie with them, and at the end of the batch
+  abbrev with_all : Blocks
+  with_all = with_steps (steps_of effects (spots_in made.records)) b
+
   abbrev after : Blocks
-  after = with_steps (steps_of effects (spots_in made.records)) b
+  after = closed with_all
 
   next_records : AreNext b effects (placing b) made.records made.placing
   next_records =
@@ -205,18 +211,23 @@ module _ (log : LogState) (b : Blocks) (base next : Durable) (effects : List Eff
         }
 
     -- and behind them
-    end_of : (x : Files) → HasMessages b effects made.records old x → IsEnd x mid.seen b made.placing made.records base next b after
+    end_of : (x : Files) → HasMessages b effects made.records old x → IsEnd x mid.seen b made.placing made.records base next b with_all
     end_of x h =
         all_states x mid.seen b effects (placing b) made.records made.placing base next b (first_state x h) next_records w.planned.allowed w.next_is.folded h.messages has.read.messages
 
-    pub here : IsEnd mid.seen mid.seen b made.placing made.records base next b after
+    here : IsEnd mid.seen mid.seen b made.placing made.records base next b with_all
     here = end_of mid.seen has.read
+
+    pub table_after : IsTable after
+    table_after = law_closed.table with_all here.state.table
 
     adds : (records : Bytes) → records ≡ flat_map spelled_record made.records → IsBatch records → Adds (logged base b) records (logged next after)
     adds records are few = record {
       records = made.records;
       stand = (law_records records made.records few).1 (record { allowed = here.stand; bytes_are = are });
+      made = logged next with_all;
       folded = here.folded;
+      new_is = refl;
       storable = (law_unread.storable next).1 w.next_is.storable;
     }
 
@@ -239,9 +250,9 @@ module _ (log : LogState) (b : Blocks) (base next : Durable) (effects : List Eff
         go true e = subst (λ (n : ℕ). mid.leaves n bytes) (sym (eqb-true f file e)) left
         go false e = honest f
 
-    firm_mid : IsHonest mid → All (IsFirm mid) (blocks after)
-    firm_mid honest = λ i d within.
-        let k = slice_index_or (blocks after) i d in
+    firm_all : IsHonest mid → All (IsFirm mid) (blocks with_all)
+    firm_all honest = λ i d within.
+        let k = slice_index_or (blocks with_all) i d in
         let whole : IsWhole mid.seen (last_of next) k = here.state.stored.whole i d within in
         let long = follow_within (written_in mid.seen k) whole.messages 0 k.end whole.few (omega arith) whole.stand.follow in
         record {
@@ -251,6 +262,9 @@ module _ (log : LogState) (b : Blocks) (base next : Durable) (effects : List Eff
               let same : take k.end (x k.file) ≡ take k.end (mid.seen k.file) = (end_of x (has.left x (left_with honest k.file bytes is))).state.same i d within in
               ap (λ (t : Bool). take k.end (cond t bytes (mid.seen k.file))) (sym (eq-eqb k.file k.file refl)) ∙ same;
         }
+
+    firm_mid : IsHonest mid → All (IsFirm mid) (blocks after)
+    firm_mid honest = all_closed (IsFirm mid) with_all (firm_all honest)
 
     -- ---- while the batch is appended
 
@@ -280,7 +294,8 @@ module _ (log : LogState) (b : Blocks) (base next : Durable) (effects : List Eff
 
       pub stored_next : AreStoredIn image after (last_of next) (stored_messages next)
       stored_next =
-          stored_moved without_log image after (last_of next) (stored_messages next) here.state.table (same_blocks after here.state.table) (end_of without_log (has.left without_log left_without)).state.stored
+          stored_closed image with_all (last_of next) (stored_messages next)
+          (stored_moved without_log image with_all (last_of next) (stored_messages next) here.state.table (same_blocks with_all here.state.table) (end_of without_log (has.left without_log left_without)).state.stored)
 
     -- ---- once a file of a log is written, and no other
 
@@ -288,23 +303,24 @@ module _ (log : LogState) (b : Blocks) (base next : Durable) (effects : List Eff
       pub firm_late : IsHonest mid → All (IsFirm late) (blocks after)
       firm_late honest = λ i d within.
           let k = slice_index_or (blocks after) i d in
-          let block : IsFile k.file = here.state.table.blocks_are.files i d within in
+          let block : IsFile k.file = table_after.blocks_are.files i d within in
           firm_by k mid late (elsewhere k.file (λ is. omega (arith, is, block.low, low))) (firm_mid honest i d within)
 
       pub stored_late : AreStoredIn late.seen after (last_of next) (stored_messages next)
       stored_late =
-          stored_moved mid.seen late.seen after (last_of next) (stored_messages next) here.state.table
+          stored_closed late.seen with_all (last_of next) (stored_messages next)
+          (stored_moved mid.seen late.seen with_all (last_of next) (stored_messages next) here.state.table
           (λ i d within.
-          let k = slice_index_or (blocks after) i d in
+          let k = slice_index_or (blocks with_all) i d in
           let block : IsFile k.file = here.state.table.blocks_are.files i d within in
-          ap (take k.end) (elsewhere k.file (λ is. omega (arith, is, block.low, low))).seen) here.state.stored
+          ap (take k.end) (elsewhere k.file (λ is. omega (arith, is, block.low, low))).seen) here.state.stored)
 
     log_is_low : log.file < 2
     log_is_low = log_low log b base old w.base_is
 
     -- what is told then
     pub given_next : IsLogged (logged next after)
-    given_next = law_begins.logged made.records (logged base b) (logged next after) here.stand here.folded w.base_is.given
+    given_next = law_begins.closed (logged next with_all) (law_begins.logged made.records (logged base b) (logged next with_all) here.stand here.folded w.base_is.given)
 
     abbrev batches : List Bytes
     batches = w.base_is.settled.0
@@ -397,7 +413,7 @@ module _ (log : LogState) (b : Blocks) (base next : Durable) (effects : List Eff
             base_of log_after (batches ++ records ∷ []) late after next now_late settled (subst IsSome (sym generation_same) w.base_is.begun)
             (both_durable 0 (omega arith) w.base_is.durable_zero) (both_durable 1 (omega arith) w.base_is.durable_one)
             (gives_more batches records (logged base b) (logged next after) some gives (adds records are few))
-            (record { table = here.state.table; stand = firm_blocks after late (firm_late late log.file log_is_low elsewhere honest); storable = w.next_is.storable; given = given_next; stored = stored_late late log.file log_is_low elsewhere; openable = w.next_is.openable })
+            (record { table = table_after; stand = firm_blocks after late (firm_late late log.file log_is_low elsewhere honest); storable = w.next_is.storable; given = given_next; stored = stored_late late log.file log_is_low elsewhere; openable = w.next_is.openable })
 
 -- a file in which no block is begins with nothing
 starts_none : (b : Blocks) (image seen : Files) (file : ℕ) → has_block b file ≡ false → StartsWith (image file) (front_in b seen file)

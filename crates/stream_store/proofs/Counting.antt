@@ -17,16 +17,18 @@ use Rattle.block_table.specs.Blocks.{Blocks, blocks, no_blocks}
 use Rattle.block_table.specs.Placings.{free_from, place, place_at, place_on, placing, stays}
 use Rattle.block_table.specs.Puts.{begins, fits, goes_on, is_above, put, put_at}
 use Rattle.block_table.specs.Rooms.{in_use}
+use Rattle.block_table.proofs.Closing.{law_closed}
 use Rattle.block_table.proofs.InUse.{put_at_count, put_on_count, removed_count}
 use Rattle.block_table.proofs.Ranges.{begun_at}
 use Rattle.block_table.proofs.Rooms.{law_room}
 use Rattle.block_writing.specs.Planning.{Planned, begun, message_by, spots_in}
 use Rattle.stream_store.specs.Laws.{LawCounting}
-use Rattle.stream_store.specs.Placing.{blocks_by, blocks_then, can_place, has_place, has_room, placing_behind, placing_then, plan_of, used_behind, used_by}
+use Rattle.stream_store.specs.Placing.{blocks_by, blocks_then, can_place, has_room, placing_behind, placing_then, plan_of, spot_by, used_behind, used_by}
 use Rattle.stream_store.specs.Steps.{steps_of, with_steps}
+use Rattle.stream_store.proofs.Closing.{batch_closes}
 use Rattle.stream_store.proofs.Folding.{AreNext, Moves, goes_on_by}
 use Rattle.stream_store.proofs.Recorded.{steps_one, steps_then}
-use Rattle.stream_store.proofs.Rooms.{placing_push, planned_placing, then_placing}
+use Rattle.stream_store.proofs.Placings.{placing_push, planned_placing, then_placing}
 
 -- ---- what is in use
 
@@ -71,9 +73,13 @@ message b es seq at id subject headers payload can =
 room : (b : Blocks) (es : List Effect) → can_place b es ≡ true → used_behind b es < 65534 → (len : ℕ) → has_room b es len ≡ true
 room b es can few len = go (placing_behind b es) refl
   where
+    mapped : (o : Option (Spot × Placing)) → is_some (option_map (λ (r : Spot × Placing). r.0) o) ≡ is_some o
+    mapped None = refl
+    mapped (Some r) = refl
+
     go : (o : Option Placing) → placing_behind b es ≡ o → has_room b es len ≡ true
     go None is = absurd (true≢false (sym can ∙ planned_placing b es ∙ ap is_some is))
-    go (Some p) is = ap (has_place b len) is ∙ law_room.room b p len (subst (λ (o : Option Placing). used_by b o < 65534) is few)
+    go (Some p) is = ap (λ (o : Option Placing). is_some (spot_by b len o)) is ∙ mapped (place b len p) ∙ law_room.room b p len (subst (λ (o : Option Placing). used_by b o < 65534) is few)
 
 -- ---- what a commit leaves
 
@@ -205,7 +211,10 @@ commit b es can = go (plan_of b es) refl
     go (Some made) is =
         let g = goes_on_by b es (begun b) made is in
         let next = subst (λ (l : List Record). AreNext b es (placing b) l made.placing) (sym g.records) g.next in
-        subst Counts (sym is) (counted_all b es (placing b) made.records made.placing b next (counted_first b)).count
+        let all = with_steps (steps_of es (spots_in made.records)) b in
+        let most = (counted_all b es (placing b) made.records made.placing b next (counted_first b)).count in
+        let fewer = law_closed.fewer all in
+        subst Counts (sym is) (subst (λ (c : Blocks). length (blocks c) ≤ in_use b made.placing) (sym (batch_closes es (spots_in made.records) b)) (omega (arith, most, fewer)))
 
 pub law_counting : LawCounting
 law_counting = record { none = λ b. law_room.first b; change = change; message = message; room = room; commit = commit }

@@ -1,16 +1,19 @@
--- Faults of staging, and of the start of a log, as they are told of a commit.
-use Rattle.std.proofs.Common.{◌≡◌, Result, Ok, Err, IsErrAnd, refl, sym, ◌∙◌}
+-- Why a commit was not made, or a store not opened.
+use Rattle.std.proofs.Common.{◌≡◌, ℕ, Result, Ok, Err, IsErrAnd, ap, refl, sym, ◌∙◌}
 use Rattle.std.specs.Prelude.{IsErrOf}
-use Rattle.gate_log.specs.Opening.{IsOutside}
 use Rattle.gate_log.specs.declared.fault.LogFault.{LogFault}
-use Rattle.gate_log.specs.declared.fault.LogFault.TheVariants as log
-use Rattle.stream_store.specs.Faults.{stage_fault, start_fault}
+use Rattle.gate_log.specs.declared.fault.LogFault.TheVariants as logs
+use Rattle.log_records.specs.declared.fault.ReadFault.{ReadFault}
+use Rattle.log_records.specs.declared.fault.ReadFault.TheVariants as records
+use Rattle.block_reading.specs.declared.fault.MessagesFault.{MessagesFault}
+use Rattle.block_reading.specs.declared.fault.MessagesFault.TheVariants as messages
+use Rattle.stream_store.specs.Faults.{blocks_fault, open_fault, records_fault}
 use Rattle.stream_store.specs.declared.fault.CommitFault.{CommitFault}
-use Rattle.stream_store.specs.declared.fault.CommitFault.TheVariants.{Fault, Full, NoMemory, Worn}
-use Rattle.stream_store.specs.declared.fault.StageFault.{StageFault}
-use Rattle.stream_store.specs.declared.fault.StageFault.TheVariants as stage
+use Rattle.stream_store.specs.declared.fault.CommitFault.TheVariants.{Fault, NoMemory, Worn}
+use Rattle.stream_store.specs.declared.fault.OpenFault.{OpenFault}
+use Rattle.stream_store.specs.declared.fault.OpenFault.TheVariants as opening
 
-told_of : {T : Type 0} (result : Result T CommitFault) (told e : CommitFault) → IsErrAnd result (λ t. t ≡ told) → IsErrOf result e → told ≡ e
+told_of : {T E : Type 0} (result : Result T E) (told e : E) → IsErrAnd result (λ t. t ≡ told) → IsErrOf result e → told ≡ e
 told_of (Ok value) told e is same = absurd is
 told_of (Err t) told e is same = let here : t ≡ e = cc in sym is ∙ here
 
@@ -21,72 +24,35 @@ memory_worn result is same = let told : NoMemory ≡ Worn = told_of result NoMem
 pub volume_worn : {T : Type 0} (result : Result T CommitFault) → IsErrAnd result (λ t. t ≡ Fault) → IsErrOf result Worn → ⊥
 volume_worn result is same = let told : Fault ≡ Worn = told_of result Fault Worn is same in absurd (cc)
 
-module _ {T : Type 0} (result : Result T CommitFault) (fault : StageFault) (is : IsErrAnd result (λ t. t ≡ stage_fault fault)) where
-  pub staged_full : IsErrOf result Full → fault ≡ stage.Full
-  staged_full same = go fault (told_of result (stage_fault fault) Full is same)
-    where
-      go : (f : StageFault) → stage_fault f ≡ Full → f ≡ stage.Full
-      go stage.Full e = refl
-      go stage.NoMemory e = absurd (cc)
+-- what a call never answers is not answered where its fault is handed on
+pub never_told : {T S E : Type 0} (result : Result T E) (inner : Result S E) (fault e : E) → IsErrAnd result (λ t. t ≡ fault) → inner ≡ Err fault → ¬ IsErrOf inner e → ¬ IsErrOf result e
+never_told result inner fault e is told never same = never (told ∙ ap (λ t. Err t) (told_of result fault e is same))
 
-  pub staged_memory : IsErrOf result NoMemory → fault ≡ stage.NoMemory
-  staged_memory same = go fault (told_of result (stage_fault fault) NoMemory is same)
-    where
-      go : (f : StageFault) → stage_fault f ≡ NoMemory → f ≡ stage.NoMemory
-      go stage.Full e = absurd (cc)
-      go stage.NoMemory e = refl
+-- ---- neither the volume's faults nor want of memory are want of room
 
-  pub staged_fault : IsErrOf result Fault → ⊥
-  staged_fault same = go fault (told_of result (stage_fault fault) Fault is same)
-    where
-      go : (f : StageFault) → stage_fault f ≡ Fault → ⊥
-      go stage.Full e = absurd (cc)
-      go stage.NoMemory e = absurd (cc)
+pub volume_roomy : {T : Type 0} (result : Result T OpenFault) → IsErrAnd result (λ t. t ≡ opening.Fault) → ¬ IsErrOf result opening.NoRoom
+volume_roomy result is same = let told : opening.Fault ≡ opening.NoRoom = told_of result opening.Fault opening.NoRoom is same in absurd (cc)
 
-  pub staged_worn : IsErrOf result Worn → ⊥
-  staged_worn same = go fault (told_of result (stage_fault fault) Worn is same)
-    where
-      go : (f : StageFault) → stage_fault f ≡ Worn → ⊥
-      go stage.Full e = absurd (cc)
-      go stage.NoMemory e = absurd (cc)
+pub memory_roomy : {T : Type 0} (result : Result T OpenFault) → IsErrAnd result (λ t. t ≡ opening.NoMemory) → ¬ IsErrOf result opening.NoRoom
+memory_roomy result is same = let told : opening.NoMemory ≡ opening.NoRoom = told_of result opening.NoMemory opening.NoRoom is same in absurd (cc)
 
-module _ {T : Type 0} (result : Result T CommitFault) (fault : LogFault) (outside : IsOutside fault) (is : IsErrAnd result (λ t. t ≡ start_fault fault)) where
-  pub started_memory : IsErrOf result NoMemory → fault ≡ log.NoMemory
-  started_memory same = go fault outside (told_of result (start_fault fault) NoMemory is same)
-    where
-      go : (f : LogFault) → IsOutside f → start_fault f ≡ NoMemory → f ≡ log.NoMemory
-      go log.Fault o e = absurd (cc)
-      go log.Full o e = absurd o
-      go log.NoMemory o e = refl
-      go (log.Damaged at) o e = absurd o
-      go (log.UnknownVersion n) o e = absurd o
+-- nor are those of a log, of its records and of messages
 
-  pub started_fault : IsErrOf result Fault → fault ≡ log.Fault
-  started_fault same = go fault outside (told_of result (start_fault fault) Fault is same)
-    where
-      go : (f : LogFault) → IsOutside f → start_fault f ≡ Fault → f ≡ log.Fault
-      go log.Fault o e = refl
-      go log.Full o e = absurd o
-      go log.NoMemory o e = absurd (cc)
-      go (log.Damaged at) o e = absurd o
-      go (log.UnknownVersion n) o e = absurd o
+pub open_roomy : (file : ℕ) (fault : LogFault) (told : OpenFault) → told ≡ open_fault file fault → ¬ (told ≡ opening.NoRoom)
+open_roomy file logs.Fault told e is = absurd (cc)
+open_roomy file logs.NoMemory told e is = absurd (cc)
+open_roomy file (logs.Damaged at) told e is = absurd (cc)
+open_roomy file (logs.UnknownVersion n) told e is = absurd (cc)
 
-  pub started_full : IsErrOf result Full → ⊥
-  started_full same = go fault outside (told_of result (start_fault fault) Full is same)
-    where
-      go : (f : LogFault) → IsOutside f → start_fault f ≡ Full → ⊥
-      go log.Fault o e = absurd (cc)
-      go log.Full o e = absurd o
-      go log.NoMemory o e = absurd (cc)
-      go (log.Damaged at) o e = absurd o
-      go (log.UnknownVersion n) o e = absurd o
+pub records_roomy : (file : ℕ) (fault : ReadFault) (told : OpenFault) → told ≡ records_fault file fault → ¬ (told ≡ opening.NoRoom)
+records_roomy file records.Fault told e is = absurd (cc)
+records_roomy file (records.Damaged at) told e is = absurd (cc)
+records_roomy file records.NoMemory told e is = absurd (cc)
 
-  pub started_worn : IsErrOf result Worn → ⊥
-  started_worn same = go fault outside (told_of result (start_fault fault) Worn is same)
-    where
-      go : (f : LogFault) → IsOutside f → start_fault f ≡ Worn → ⊥
-      go log.Fault o e = absurd (cc)
-      go log.Full o e = absurd o
-      go log.NoMemory o e = absurd (cc)
-      go (log.Damaged at) o e = absurd o
-      go (log.UnknownVersion n) o e = absurd o
+blocks_roomy : (fault : MessagesFault) (told : OpenFault) → told ≡ blocks_fault fault → ¬ (told ≡ opening.NoRoom)
+blocks_roomy messages.Fault told e is = absurd (cc)
+blocks_roomy (messages.Damaged file at) told e is = absurd (cc)
+blocks_roomy messages.NoMemory told e is = absurd (cc)
+
+pub messages_roomy : {T : Type 0} (result : Result T OpenFault) (fault : MessagesFault) → IsErrAnd result (λ t. t ≡ blocks_fault fault) → ¬ IsErrOf result opening.NoRoom
+messages_roomy result fault is same = blocks_roomy fault (blocks_fault fault) refl (told_of result (blocks_fault fault) opening.NoRoom is same)

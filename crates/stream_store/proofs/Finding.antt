@@ -9,10 +9,9 @@ use Rattle.vol_disk.specs.Images.{IsDurable}
 use Rattle.vol_disk.specs.Moments.{Quiet}
 use Rattle.vol_disk.proofs.Moments.{quiet_durable}
 use Rattle.js_base.specs.Bytes.{Bytes}
-use Rattle.gate_log.specs.Appending.{IsAppendFault}
 use Rattle.gate_log.specs.LogFile.{HasOpen}
 use Rattle.gate_log.specs.LogState.{LogState, generation_of}
-use Rattle.gate_log.specs.Opening.{IsOpenFault as IsFileFault, IsOutside}
+use Rattle.gate_log.specs.Opening.{IsOpenFault as IsFileFault}
 use Rattle.gate_log.specs.Settled.{IsSettled}
 use Rattle.gate_log.specs.declared.fault.LogFault.{LogFault}
 use Rattle.gate_log.specs.declared.fault.LogFault.TheVariants as logs
@@ -46,13 +45,13 @@ use Rattle.stream_store.specs.Logs.{LogIn, HasLog, HasLogs, is_first, current, c
 use Rattle.stream_store.specs.Damage.{IsBadLogged}
 use Rattle.stream_store.specs.Holding.{Holds, last_of, logged}
 use Rattle.stream_store.specs.Base.{IsBaseOf}
-use Rattle.stream_store.specs.Beginning.{IsUnbegun, IsOutsideFault}
+use Rattle.stream_store.specs.Beginning.{IsBeginFault, IsUnbegun}
 use Rattle.stream_store.specs.Faults.{blocks_fault, open_fault, records_fault}
 use Rattle.stream_store.specs.Finding.{IsCurrent, IsFaultIn, IsFaultWhere, IsLogFault, IsRecordsFault}
 use Rattle.stream_store.specs.Opening.{IsOpenFault}
 use Rattle.stream_store.specs.Untouched.{AreBlocksGone, IsNoneOpen, IsTouchedAt, IsUntouched}
 use Rattle.stream_store.specs.declared.fault.OpenFault.{OpenFault}
-use Rattle.stream_store.specs.declared.fault.OpenFault.TheVariants.{Fault, Damaged, UnknownVersion, NoMemory as OutOfMemory}
+use Rattle.stream_store.specs.declared.fault.OpenFault.TheVariants.{Fault, Damaged, UnknownVersion, NoRoom, NoMemory as OutOfMemory}
 use Rattle.stream_store.specs.Reading.{AreSynced, IsBlocksFault, IsFound, IsStoredBy}
 use Rattle.stream_store.specs.declared.logs.Current.{Current}
 use Rattle.stream_store.specs.declared.reading.Found.{Found}
@@ -65,14 +64,12 @@ use Rattle.stream_store.proofs.Blocks.{IsFirm, firm_blocks}
 
 pub zero_fault : (image : Files) (fault : LogFault) → IsFileFault (image 0) fault → IsLogFault image (open_fault 0 fault)
 zero_fault image logs.Fault h = tt
-zero_fault image logs.Full h = absurd h
 zero_fault image logs.NoMemory h = absurd h
 zero_fault image (logs.Damaged at) h = record { which = inl (refl, h) }
 zero_fault image (logs.UnknownVersion n) h = (0, record { which = inl (refl, h) })
 
 pub other_fault : (image : Files) (zero : LogIn) (fault : LogFault) → HasLog (image 0) zero → IsFileFault (image 1) fault → IsLogFault image (open_fault 1 fault)
 other_fault image zero logs.Fault log h = tt
-other_fault image zero logs.Full log h = absurd h
 other_fault image zero logs.NoMemory log h = absurd h
 other_fault image zero (logs.Damaged at) log h = record { which = inr (refl, ((zero, log), h)) }
 other_fault image zero (logs.UnknownVersion n) log h = (1, record { which = inr (refl, ((zero, log), h)) })
@@ -105,6 +102,7 @@ bad_blocks file log disk read Fault gives h = tt
 bad_blocks file log disk read (Damaged damaged at) gives h = λ batches settled.
     inr (record { given = given_in read; gives = law_batches.last batches (given_in read) read.last (gives batches settled); damaged = h })
 bad_blocks file log disk read (UnknownVersion n) gives h = absurd h
+bad_blocks file log disk read NoRoom gives h = absurd h
 bad_blocks file log disk read OutOfMemory gives h = tt
 
 -- ---- where nothing is written
@@ -116,6 +114,7 @@ pub blocks_back : (read : LogRead) (old mid : Disk) (fault : OpenFault) → Quie
 blocks_back read old mid Fault still h = tt
 blocks_back read old mid (Damaged file at) still h = subst (λ (x : Files). AreDamaged x read.table (last_of read.durable) (stored_messages read.durable) file at) (fun_ext still.seen) h
 blocks_back read old mid (UnknownVersion n) still h = absurd h
+blocks_back read old mid NoRoom still h = absurd h
 blocks_back read old mid OutOfMemory still h = tt
 
 -- ---- causes
@@ -125,7 +124,6 @@ told_as r a b p q = cc
 
 pub open_cause : (file : ℕ) (fault : LogFault) (told : OpenFault) → told ≡ open_fault file fault → told ≡ Fault → fault ≡ logs.Fault
 open_cause file logs.Fault told e is = refl
-open_cause file logs.Full told e is = absurd (cc)
 open_cause file logs.NoMemory told e is = absurd (cc)
 open_cause file (logs.Damaged at) told e is = absurd (cc)
 open_cause file (logs.UnknownVersion n) told e is = absurd (cc)
@@ -134,26 +132,6 @@ pub read_cause : (file : ℕ) (fault : ReadFault) (told : OpenFault) → told �
 read_cause file records.Fault told e is = refl
 read_cause file (records.Damaged at) told e is = absurd (cc)
 read_cause file records.NoMemory told e is = absurd (cc)
-
-pub start_outside : (fault : LogFault) (told : OpenFault) → told ≡ open_fault 0 fault → IsOutside fault → IsOutsideFault told
-start_outside fault told e h = subst IsOutsideFault (sym e) (go fault h)
-  where
-    go : (fault : LogFault) → IsOutside fault → IsOutsideFault (open_fault 0 fault)
-    go logs.Fault h = tt
-    go logs.Full h = absurd h
-    go logs.NoMemory h = tt
-    go (logs.Damaged at) h = absurd h
-    go (logs.UnknownVersion n) h = absurd h
-
-pub append_outside : (fault : LogFault) (told : OpenFault) → told ≡ open_fault 0 fault → IsAppendFault fault → IsOutsideFault told
-append_outside fault told e h = subst IsOutsideFault (sym e) (go fault h)
-  where
-    go : (fault : LogFault) → IsAppendFault fault → IsOutsideFault (open_fault 0 fault)
-    go logs.Fault h = tt
-    go logs.Full h = tt
-    go logs.NoMemory h = tt
-    go (logs.Damaged at) h = absurd h
-    go (logs.UnknownVersion n) h = absurd h
 
 -- ---- both logs
 
@@ -367,12 +345,14 @@ records_fault_of found old mid still (Damaged file at) c h =
     let there = subst (λ (n : ℕ). IsBadLogged mid.seen n batches file at) c.file_is (h batches c.settled) in
     inr (inl (record { zero = c.zero; one = c.one; logs = c.logs; bad = subst (λ (x : Files). IsBadLogged x (current_file c.zero c.one) batches file at) (fun_ext still.seen) there }))
 records_fault_of found old mid still (UnknownVersion n) c h = absurd h
+records_fault_of found old mid still NoRoom c h = absurd h
 records_fault_of found old mid still OutOfMemory c h = tt
 
 pub log_fault_of : (image : Files) (fault : OpenFault) → IsLogFault image fault → IsOpenFault image fault
 log_fault_of image Fault h = tt
 log_fault_of image (Damaged file at) h = inl h
 log_fault_of image (UnknownVersion n) h = h
+log_fault_of image NoRoom h = absurd h
 log_fault_of image OutOfMemory h = absurd h
 
 -- a stream is missing
@@ -380,10 +360,12 @@ pub touched_of : (image : Files) (fault : OpenFault) → IsNoneOpen image → Is
 touched_of image Fault none h = tt
 touched_of image (Damaged file at) none h = inr (inr (record { none = none; touched = h }))
 touched_of image (UnknownVersion n) none h = absurd h
+touched_of image NoRoom none h = absurd h
 touched_of image OutOfMemory none h = absurd h
 
-pub outside_of : (image : Files) (fault : OpenFault) → IsOutsideFault fault → IsOpenFault image fault
-outside_of image Fault h = tt
-outside_of image (Damaged file at) h = absurd h
-outside_of image (UnknownVersion n) h = absurd h
-outside_of image OutOfMemory h = tt
+pub begin_of : (image : Files) (fault : OpenFault) → IsBeginFault fault → IsOpenFault image fault
+begin_of image Fault h = tt
+begin_of image (Damaged file at) h = absurd h
+begin_of image (UnknownVersion n) h = absurd h
+begin_of image NoRoom h = tt
+begin_of image OutOfMemory h = tt

@@ -8,7 +8,7 @@ pub mod Records
 pub mod Taken
 pub mod Synced
 pub mod Messages
-pub mod Rooms
+pub mod Placings
 pub mod Stages
 pub mod Folding
 pub mod Storing
@@ -27,3 +27,8 @@ pub mod Untouched
 pub mod Closed
 pub mod Spots
 pub mod Faults
+pub mod Closing
+pub mod Lengthening
+pub mod MessageRooms
+pub mod Known
+pub mod Spotting

@@ -72,7 +72,7 @@ module _ (b : Blocks) (es : List Effect) (staged : Staged) where
 
 -- ---- the blocks that may be dropped
 
-behind_logs : (b : Blocks) (all : Bool) → IsTable b → AreBehindLogs (blocks_of all b)
+pub behind_logs : (b : Blocks) (all : Bool) → IsTable b → AreBehindLogs (blocks_of all b)
 behind_logs b all table = go all (All-weaker (λ (k : Block). IsFile k.file) (λ k. 2 ≤ k.file) (λ k file. file.low) (blocks b) table.blocks_are.files)
   where
     second : (xs ys : List Block) → AreBehindLogs (xs ++ ys) → AreBehindLogs ys

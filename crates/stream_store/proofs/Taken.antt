@@ -75,7 +75,7 @@ all_steps steps es i spots used past so_far =
 
 -- ---- steps that a copy of a table takes
 
-steps_push : (steps : List Step) (s : Step) (b : Blocks) → with_steps (steps ++ s ∷ []) b ≡ with_step s (with_steps steps b)
+pub steps_push : (steps : List Step) (s : Step) (b : Blocks) → with_steps (steps ++ s ∷ []) b ≡ with_step s (with_steps steps b)
 steps_push [] s b = refl
 steps_push (x ∷ steps) s b = steps_push steps s (with_step x b)
 

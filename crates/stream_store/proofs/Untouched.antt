@@ -9,7 +9,7 @@ use Rattle.vol_disk.proofs.Moments.{empty_behind, quiet, quiet_durable, quiet_th
 use Rattle.stream_store.specs.Finding.{IsFaultWhere}
 use Rattle.stream_store.specs.Untouched.{AreBlocksGone, HasMore, IsTouchedAt, IsUntouched, IsWithin, allowed, told_at}
 use Rattle.stream_store.specs.declared.fault.OpenFault.{OpenFault}
-use Rattle.stream_store.specs.declared.fault.OpenFault.TheVariants.{Fault, Damaged, UnknownVersion, NoMemory as OutOfMemory}
+use Rattle.stream_store.specs.declared.fault.OpenFault.TheVariants.{Fault, Damaged, UnknownVersion, NoRoom, NoMemory as OutOfMemory}
 use Rattle.stream_store.proofs.Vacant.{allows_none}
 
 -- ---- one file
@@ -90,4 +90,5 @@ touched_fault file old entry mid (Damaged damaged at) high still is (same, here)
       before = λ other lt. subst (λ (l : List ℕ). length l ≤ allowed other) (still.seen other) (is.within other lt);
     })
 touched_fault file old entry mid (UnknownVersion n) high still is h = absurd h
+touched_fault file old entry mid NoRoom high still is h = absurd h
 touched_fault file old entry mid OutOfMemory high still is h = absurd h

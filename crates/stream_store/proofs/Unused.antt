@@ -1,5 +1,5 @@
 -- The files of blocks that a commit leaves without messages.
-use Rattle.std.proofs.Common.{◌≡◌, ◌≢◌, ◌≤◌, inl, inr, ℕ, ◌==◌, ◌&&◌, ◌||◌, not, Bool, true, false, cond, List, [], ◌∷◌, ◌++◌, Option, Some, None, All, map, refl, sym, ap, subst, ◌∙◌}
+use Rattle.std.proofs.Common.{◌≡◌, ◌≢◌, ◌≤◌, inl, inr, ℕ, ◌==◌, ◌||◌, not, Bool, true, false, cond, List, [], ◌∷◌, ◌++◌, Option, Some, None, All, map, refl, sym, ap, subst, ◌∙◌}
 use Rattle.std.specs.Prelude.{unwrap_or}
 use Rattle.std.specs.Option.{option_to_list}
 use Rattle.std.proofs.lemmas.Bool.{true≢false, eqb-true, eq-eqb, or_left, or_right, or_parts, and_from}
@@ -11,14 +11,15 @@ use Rattle.effects.specs.declared.effect.Effect.{Effect}
 use Rattle.block_table.specs.declared.block.Block.{Block}
 use Rattle.block_table.specs.declared.placed.Placed.{Placed}
 use Rattle.block_table.specs.Blocks.{Blocks, blocks, has_block, is_among, is_used}
+use Rattle.block_table.specs.Closing.{closed}
 use Rattle.block_table.specs.Puts.{fits, put_at}
 use Rattle.block_table.specs.Tables.{IsTable}
+use Rattle.block_table.proofs.Closing.{law_closed}
 use Rattle.block_table.proofs.Tables.{block_is, table_put, used_more}
 use Rattle.block_writing.specs.declared.run.Run.{Run}
-use Rattle.block_writing.specs.Dropping.{is_unused, ChangesUnused, IsEmptied, AreEmptied}
+use Rattle.block_writing.specs.Dropping.{is_unused, IsEmptied}
 use Rattle.block_writing.specs.Planning.{Planned}
 use Rattle.block_writing.specs.Writing.{IsUntouched}
-use Rattle.block_writing.proofs.Written.{emptied_still}
 use Rattle.stream_store.specs.Committing.{EmptiesUnused, touches, writes_in}
 use Rattle.stream_store.specs.Staging.{AreBehindLogs, HasDropped, IsPrepared, block_of, blocks_of, is_written}
 use Rattle.stream_store.specs.Steps.{takes_away, with_steps}
@@ -79,6 +80,7 @@ none_goes (step.Put seq spot ∷ steps) b file none table used =
     go was_put was_not false e = was_not
 none_goes (step.Remove low high ∷ steps) b file none table used = absurd (true≢false none)
 none_goes (step.Clear ∷ steps) b file none table used = absurd (true≢false none)
+none_goes (step.Close ∷ steps) b file none table used = none_goes steps (closed b) file none (law_closed.table b table) used
 
 -- ---- what is staged
 
@@ -148,44 +150,49 @@ module _ (b : Blocks) (es : List Effect) (staged : Staged) (s : IsPrepared b es 
 pub rests_after : (file : ℕ) (old mid new : Disk) → Rests file old mid → Rests file mid new → Rests file old new
 rests_after file old mid new first second = record { seen = second.seen ∙ first.seen; leaves = λ bytes left. first.leaves bytes (second.leaves bytes left) }
 
-module _ (store after : StoreState) (es : List Effect) (staged : Staged) (s : IsPrepared store.blocks es staged) (after_is : after.blocks ≡ with_steps staged.steps.items store.blocks) (behind : AreBehindLogs store.unused)
-    (old begun mid new : Disk) (first : ChangesUnused store.blocks store.unused old begun) (cut : AreEmptied store.blocks store.unused begun)
-    (written : (file : ℕ) → 2 ≤ file → is_written staged.runs.items file ≡ false → Rests file begun mid)
-    (dropped : HasDropped after.blocks staged.blocks.items after.unused new) (others : (file : ℕ) → is_among staged.blocks.items file ≡ false → Rests file mid new) where
-  rests_then : (file : ℕ) → 2 ≤ file → touches store.blocks es file ≡ false → Rests file begun new
-  rests_then file high none =
-      rests_after file begun mid new (written file high (not_written store.blocks es staged s file none))
-      (others file (not_named store.blocks es staged s file none))
+-- what was to be cut already, and what the commit may leave without messages
+module _ (store after : StoreState) (es : List Effect) (staged : Staged) (s : IsPrepared store.blocks es staged) (after_is : after.blocks ≡ with_steps staged.steps.items store.blocks) (ks : List Block)
+    (ks_are : ks ≡ store.unused ++ staged.blocks.items) (old mid new : Disk) (written : (file : ℕ) → 2 ≤ file → is_written staged.runs.items file ≡ false → Rests file old mid)
+    (dropped : HasDropped after.blocks ks after.unused new) (others : (file : ℕ) → is_among ks file ≡ false → Rests file mid new) where
+  among_is : (file : ℕ) → is_among ks file ≡ (is_among store.unused file || is_among staged.blocks.items file)
+  among_is file = ap (λ (l : List Block). is_among l file) ks_are ∙ among_either store.unused staged.blocks.items file
 
-  free_before : (file : ℕ) → touches store.blocks es file ≡ false → has_block store.blocks file ≡ false
-  free_before file none = (or_parts (has_block store.blocks file) (is_written staged.runs.items file) (sym (touched_is store.blocks es staged s file) ∙ none)).0
+  unused_both : (b : Blocks) (file : ℕ) → is_among ks file ≡ true → has_block b file ≡ false → is_unused b ks file ≡ true
+  unused_both b file among free = and_from (is_among ks file) (not (has_block b file)) among (ap not free)
 
-  unused_both : (b : Blocks) (ks : List Block) (file : ℕ) → is_among ks file ≡ true → has_block b file ≡ false → is_unused b ks file ≡ true
-  unused_both b ks file among free = and_from (is_among ks file) (not (has_block b file)) among (ap not free)
+  -- each file that is no block now was listed
+  was_listed : (file : ℕ) → (touches store.blocks es file || is_among store.unused file) ≡ true → has_block after.blocks file ≡ false → is_among ks file ≡ true
+  was_listed file any free = among_is file ∙ go (touches store.blocks es file) refl any
+    where
+      go : (t : Bool) → touches store.blocks es file ≡ t → (t || is_among store.unused file) ≡ true → (is_among store.unused file || is_among staged.blocks.items file) ≡ true
+      go true e or = or_right (is_among store.unused file) (is_among staged.blocks.items file) (named store.blocks es staged s file e (ap (λ (b : Blocks). has_block b file) (sym after_is) ∙ free))
+      go false e or = or_left (is_among store.unused file) (is_among staged.blocks.items file) or
 
   emptied : (file : ℕ) → (touches store.blocks es file || is_among store.unused file) ≡ true → has_block after.blocks file ≡ false → is_among after.unused file ≡ false → IsEmptied new file
-  emptied file any free done = go (touches store.blocks es file) refl any
+  emptied file any free done = go dropped
     where
-      cut_now : is_among staged.blocks.items file ≡ true → HasDropped after.blocks staged.blocks.items after.unused new → IsEmptied new file
-      cut_now there (inl (none, all)) = all file (unused_both after.blocks staged.blocks.items file there free)
-      cut_now there (inr same) = absurd (true≢false (sym there ∙ sym (ap (λ (l : List Block). is_among l file) same) ∙ done))
+      there : is_among ks file ≡ true
+      there = was_listed file any free
 
-      go : (t : Bool) → touches store.blocks es file ≡ t → (t || is_among store.unused file) ≡ true → IsEmptied new file
-      go true e or = cut_now (named store.blocks es staged s file e (ap (λ (b : Blocks). has_block b file) (sym after_is) ∙ free)) dropped
-      go false e or =
-          emptied_still begun new file (rests_then file (behind_among store.unused file behind or) e)
-          (cut file (unused_both store.blocks store.unused file or (free_before file e)))
+      go : HasDropped after.blocks ks after.unused new → IsEmptied new file
+      go (inl (none, all)) = all file (unused_both after.blocks file there free)
+      go (inr same) = absurd (true≢false (sym there ∙ sym (ap (λ (l : List Block). is_among l file) same) ∙ done))
 
-  late : (file : ℕ) → is_among after.unused file ≡ true → touches store.blocks es file ≡ true
+  late : (file : ℕ) → is_among after.unused file ≡ true → (touches store.blocks es file || is_among store.unused file) ≡ true
   late file there = go dropped
     where
-      go : HasDropped after.blocks staged.blocks.items after.unused new → touches store.blocks es file ≡ true
+      of_either : (t : Bool) → is_among store.unused file ≡ t → (t || is_among staged.blocks.items file) ≡ true → (touches store.blocks es file || is_among store.unused file) ≡ true
+      of_either true e or = or_right (touches store.blocks es file) (is_among store.unused file) e
+      of_either false e or = or_left (touches store.blocks es file) (is_among store.unused file) (named_only store.blocks es staged s file or)
+
+      go : HasDropped after.blocks ks after.unused new → (touches store.blocks es file || is_among store.unused file) ≡ true
       go (inl (none, all)) = absurd (true≢false (sym there ∙ ap (λ (l : List Block). is_among l file) none))
-      go (inr same) = named_only store.blocks es staged s file (sym (ap (λ (l : List Block). is_among l file) same) ∙ there)
+      go (inr same) = of_either (is_among store.unused file) refl (sym (among_is file) ∙ sym (ap (λ (l : List Block). is_among l file) same) ∙ there)
 
   elsewhere : (file : ℕ) → 2 ≤ file → touches store.blocks es file ≡ false → is_among store.unused file ≡ false → Rests file old new
   elsewhere file high none kept =
-      rests_after file old begun new (first.elsewhere file (ap (λ (t : Bool). t && not (has_block store.blocks file)) kept)) (rests_then file high none)
+      rests_after file old mid new (written file high (not_written store.blocks es staged s file none))
+      (others file (among_is file ∙ ap (λ (t : Bool). t || is_among staged.blocks.items file) kept ∙ not_named store.blocks es staged s file none))
 
   pub empties : EmptiesUnused store after es old new
   empties = record { emptied = emptied; late = late; elsewhere = elsewhere }

@@ -109,6 +109,13 @@ untouched_image disk image gone second short e file high = elim (cases_eq file 0
       ])
 ]
 
+-- the first log alone became longer
+pub untouched_seen : (old new : Files) → IsUntouched old → ((file : ℕ) → file ≢ 0 → new file ≡ old file) → length (new 0) ≤ 39 → IsUntouched new
+untouched_seen old new untouched same short file high = elim (cases_eq file 0) [
+  | inl is ↦ subst (λ (n : ℕ). length (new n) ≤ allowed n) (sym is) (subst (λ (n : ℕ). length (new 0) ≤ n) (sym begun_length_is) short)
+  | inr apart ↦ subst (λ (l : Bytes). length l ≤ allowed file) (sym (same file apart)) (untouched file high)
+]
+
 -- ---- a file with more
 
 too_many : (n most : ℕ) → n ≤ most → most < n → ⊥

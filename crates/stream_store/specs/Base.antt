@@ -12,6 +12,7 @@ use Rattle.block_table.specs.Blocks.{Blocks}
 use Rattle.block_table.specs.Tables.{IsTable}
 use Rattle.block_writing.specs.Writing.{BlocksStand}
 use Rattle.stream_store.specs.Logs.{LogIn, HasLogs, current_file}
+use Rattle.stream_store.specs.Rooms.{AreRooms}
 use Rattle.stream_store.specs.StoreState.{StoreState}
 use Rattle.log_records.specs.Logged.{IsLogged}
 use Rattle.stream_store.specs.Holding.{Holds, HoldsIn, AllHold, logged}
@@ -31,8 +32,10 @@ pub record IsBaseOf (log : LogState) (b : Blocks) (base : Durable) (disk : Disk)
   pub holds : HoldsIn disk.seen b base
   pub images : AllHold disk base
 
-abbrev pub IsBase : StoreState → Durable → Disk → Type 0
-IsBase store base disk = IsBaseOf store.log store.blocks base disk
+-- and its files are as long as is known
+pub record IsBase (store : StoreState) (base : Durable) (disk : Disk) : Type 0 where
+  pub of_log : IsBaseOf store.log store.blocks base disk
+  pub rooms : AreRooms store.rooms disk
 
 -- ---- what leaves it as it is
 
@@ -44,8 +47,16 @@ KeepsBaseOf log b old new = (base : Durable) → IsBaseOf log b base old → IsB
 abbrev pub LeavesBaseOf : LogState → Blocks → Disk → Disk → Type 0
 LeavesBaseOf log b old new = (base : Durable) → IsBaseOf log b base old → LeavesOnly old new (λ image. Holds image base)
 
-abbrev pub KeepsBase : StoreState → Disk → Disk → Type 0
-KeepsBase store old new = KeepsBaseOf store.log store.blocks old new
+-- so it is of any log and blocks
+abbrev pub KeepsBases : Disk → Disk → Type 0
+KeepsBases old new = (log : LogState) (b : Blocks) → KeepsBaseOf log b old new
+
+abbrev pub LeavesBases : Disk → Disk → Type 0
+LeavesBases old new = (log : LogState) (b : Blocks) → LeavesBaseOf log b old new
+
+-- the store is another one, of the same base
+abbrev pub MovesBase : (store after : StoreState) → Disk → Disk → Type 0
+MovesBase store after old new = (base : Durable) → IsBase store base old → IsBase after base new
 
 abbrev pub LeavesBase : StoreState → Disk → Disk → Type 0
 LeavesBase store old new = LeavesBaseOf store.log store.blocks old new

@@ -1,6 +1,6 @@
 -- What the clearing of a volume leaves: of the log that is not current, and of files that are no blocks, in which a crash may have left bytes. By a rule of this
 -- server's own.
-use Rattle.std.specs.Prelude.{◌≡◌, ◌≢◌, ◌⊎◌, ◌<◌, ◌≤◌, ℕ, true, false, [], length}
+use Rattle.std.specs.Prelude.{◌≡◌, ◌≢◌, ◌⊎◌, ◌<◌, ℕ, true, false, None, []}
 use Rattle.vol_disk.specs.Disk.{Disk, Files}
 use Rattle.vol_disk.specs.Does.{Rests}
 use Rattle.vol_disk.specs.Images.{IsDurable}
@@ -8,15 +8,20 @@ use Rattle.vol_disk.specs.Moments.{LeavesOnly}
 use Rattle.js_base.specs.Bytes.{Bytes}
 use Rattle.block_table.specs.Blocks.{Blocks, has_block}
 use Rattle.block_table.specs.Tables.{IsFile}
+use Rattle.gate_log.specs.LogFile.{HasOpen}
 use Rattle.gate_log.specs.LogState.{LogState}
 use Rattle.stream_store.specs.Alternating.{other_file}
 use Rattle.stream_store.specs.StoreState.{StoreState}
 
 -- ---- the log that is not current
 
--- whatever a crash leaves now of its file holds nothing: it has no more than a head and a closed gate
+-- whatever a crash leaves now of its file holds nothing: its first gate is closed, and behind it may be anything
 abbrev pub IsOtherClosed : LogState → Disk → Type 0
-IsOtherClosed log disk = (bytes : Bytes) → disk.leaves (other_file log.file) bytes → length bytes ≤ 21
+IsOtherClosed log disk = (bytes : Bytes) → disk.leaves (other_file log.file) bytes → HasOpen bytes None []
+
+-- it stays so
+abbrev pub KeepsClosed : Disk → Disk → Type 0
+KeepsClosed old new = (log : LogState) → IsOtherClosed log old → IsOtherClosed log new
 
 -- ---- files that are no blocks
 

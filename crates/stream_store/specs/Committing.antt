@@ -1,5 +1,5 @@
 -- What a commit needs, and what it leaves.
-use Rattle.std.specs.Prelude.{◌≡◌, ◌⊎◌, ◌≤◌, ℕ, ◌+◌, ◌||◌, Bool, true, false, length, List, Option, Some, None, map}
+use Rattle.std.specs.Prelude.{◌≡◌, ◌⊎◌, ◌≤◌, ℕ, ◌||◌, Bool, true, false, length, List, Option, Some, None, map}
 use Rattle.std.specs.List.{flat_map}
 use Rattle.js_base.specs.declared.spot.Spot.{Spot}
 use Rattle.vol_disk.specs.Disk.{Disk}
@@ -28,7 +28,7 @@ pub record IsNextBatch (base : Durable) (effects : List Effect) (next : Durable)
   pub storable : IsStorable next
   pub openable : IsOpenable next
 
--- ---- how long the log is
+-- ---- how long the batch is
 
 -- the record of a change; of a message that is stored, whatever its spot, which makes its record no longer
 abbrev pub recorded_at : Spot → Effect → Record
@@ -52,10 +52,6 @@ no_spot = record { file = 0; at = 0; len = 0 }
 -- how many bytes the records of these changes have
 abbrev pub batch_length : List Effect → ℕ
 batch_length effects = length (flat_map spelled_record (map (recorded_at no_spot) effects))
-
--- how long the log is with a batch of them
-abbrev pub length_with : StoreState → List Effect → ℕ
-length_with store effects = store.log.end + 10 + batch_length effects
 
 -- ---- what is left
 
@@ -84,7 +80,7 @@ pub record EmptiesUnused (store after : StoreState) (effects : List Effect) (old
   pub emptied :
       (file : ℕ) → (touches store.blocks effects file || is_among store.unused file) ≡ true → has_block after.blocks file ≡ false → is_among after.unused file ≡ false
       → IsEmptied new file
-  -- what was to be cut still is not left over again
-  pub late : (file : ℕ) → is_among after.unused file ≡ true → touches store.blocks effects file ≡ true
+  -- nothing else is to be cut still
+  pub late : (file : ℕ) → is_among after.unused file ≡ true → (touches store.blocks effects file || is_among store.unused file) ≡ true
   -- no other file but those of the logs is touched
   pub elsewhere : (file : ℕ) → 2 ≤ file → touches store.blocks effects file ≡ false → is_among store.unused file ≡ false → Rests file old new

@@ -12,7 +12,7 @@ use Rattle.stream_store.specs.Logs.{LogIn, HasLogs, current, current_file}
 use Rattle.stream_store.specs.Damage.{IsBadLog, IsBadLogged, IsOfAnotherVersion}
 use Rattle.stream_store.specs.Faults.{open_fault}
 use Rattle.stream_store.specs.declared.fault.OpenFault.{OpenFault}
-use Rattle.stream_store.specs.declared.fault.OpenFault.TheVariants.{Fault, Damaged, UnknownVersion, NoMemory as OutOfMemory}
+use Rattle.stream_store.specs.declared.fault.OpenFault.TheVariants.{Fault, Damaged, UnknownVersion, NoRoom, NoMemory as OutOfMemory}
 use Rattle.stream_store.specs.declared.logs.Current.{Current}
 
 -- both logs have no fault, and are on the disk; it is the current one of them
@@ -35,6 +35,7 @@ abbrev pub IsLogFault : Files → OpenFault → Type 0
 IsLogFault image Fault = Unit {0}
 IsLogFault image (Damaged file at) = IsBadLog image file (λ bytes. IsDamagedAt bytes at)
 IsLogFault image (UnknownVersion n) = IsOfAnotherVersion image n
+IsLogFault image NoRoom = ⊥
 IsLogFault image OutOfMemory = ⊥
 
 -- the volume failed, or a file is damaged, and this is so
@@ -42,6 +43,7 @@ abbrev pub IsFaultWhere : (ℕ → ℕ → Type 0) → OpenFault → Type 0
 IsFaultWhere P Fault = Unit {0}
 IsFaultWhere P (Damaged file at) = P file at
 IsFaultWhere P (UnknownVersion n) = ⊥
+IsFaultWhere P NoRoom = ⊥
 IsFaultWhere P OutOfMemory = ⊥
 
 -- the volume failed, memory ran out, or what the log in this file tells is wrong
@@ -49,4 +51,5 @@ abbrev pub IsRecordsFault : ℕ → LogState → Disk → OpenFault → Type 0
 IsRecordsFault file log disk Fault = Unit {0}
 IsRecordsFault file log disk (Damaged damaged at) = (batches : List Bytes) → IsSettled log batches disk → IsBadLogged disk.seen file batches damaged at
 IsRecordsFault file log disk (UnknownVersion n) = ⊥
+IsRecordsFault file log disk NoRoom = ⊥
 IsRecordsFault file log disk OutOfMemory = Unit {0}

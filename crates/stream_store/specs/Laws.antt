@@ -10,7 +10,7 @@ use Rattle.op_records.specs.Allowed.{is_put}
 use Rattle.op_records.specs.Blocks.{spelled_message}
 use Rattle.block_table.specs.Blocks.{Blocks, blocks}
 use Rattle.block_writing.specs.Planning.{message_by}
-use Rattle.stream_store.specs.Placing.{blocks_then, can_place, has_room, used_behind}
+use Rattle.stream_store.specs.Placing.{blocks_then, can_place, has_room, spot_behind, used_behind}
 use Rattle.stream_store.specs.Holding.{Holds}
 use Rattle.stream_store.specs.Damage.{IsDamaged, IsOfAnotherVersion}
 use Rattle.stream_store.specs.Untouched.{IsNoneOpen, IsUntouched}
@@ -31,7 +31,7 @@ keeps_placing DropStream = false
 keeps_placing (PutHere _ _ _ _ _ _) = false
 keeps_placing _ = true
 
--- a change behind others has its place if it stores no message, or if there is room for its message; and one that stores none leaves the room that was there
+-- a change behind others has its place if it stores no message, or if there is room for its message; and one that stores none leaves the message behind it where it goes
 pub record LawPlacing : Type 0 where
   pub none : (b : Blocks) → can_place b [] ≡ true
   pub change : (b : Blocks) (es : List Effect) (e : Effect) → is_put e ≡ false → can_place b es ≡ true → can_place b (es ++ e ∷ []) ≡ true
@@ -39,7 +39,7 @@ pub record LawPlacing : Type 0 where
       (b : Blocks) (es : List Effect) (seq at : ℕ) (id subject headers payload : Bytes)
       → has_room b es (length (spelled_message (message_by seq at subject headers payload))) ≡ true
       → can_place b (es ++ PutHere seq at id subject headers payload ∷ []) ≡ true
-  pub keeps : (b : Blocks) (es : List Effect) (e : Effect) (len : ℕ) → keeps_placing e ≡ true → has_room b (es ++ e ∷ []) len ≡ has_room b es len
+  pub keeps : (b : Blocks) (es : List Effect) (e : Effect) (len : ℕ) → keeps_placing e ≡ true → spot_behind b (es ++ e ∷ []) len ≡ spot_behind b es len
 
 -- each message of a batch begins one file at most; there is room as long as fewer files than the 65,534 from 2 to 65,535 are in use; and a commit leaves no more blocks
 pub record LawCounting : Type 0 where

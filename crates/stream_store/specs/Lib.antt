@@ -1,3 +1,4 @@
+pub mod Rooms
 pub mod StoreState
 pub mod Logs
 pub mod Untouched
@@ -17,4 +18,5 @@ pub mod Base
 pub mod Committing
 pub mod Writing
 pub mod Waiting
+pub mod Reserving
 pub mod Laws

@@ -11,13 +11,14 @@ use Rattle.stream_store.specs.Damage.{IsDamaged, IsOfAnotherVersion}
 use Rattle.stream_store.specs.Holding.{Holds, AllHold}
 use Rattle.stream_store.specs.Untouched.{IsNoneOpen, IsUntouched}
 use Rattle.stream_store.specs.declared.fault.OpenFault.{OpenFault}
-use Rattle.stream_store.specs.declared.fault.OpenFault.TheVariants.{Fault, Damaged, UnknownVersion, NoMemory as OutOfMemory}
+use Rattle.stream_store.specs.declared.fault.OpenFault.TheVariants.{Fault, Damaged, UnknownVersion, NoRoom, NoMemory as OutOfMemory}
 
--- the volume failed, memory ran out, or the image has this fault
+-- the volume failed or had no room, memory ran out, or the image has this fault
 abbrev pub IsOpenFault : Files → OpenFault → Type 0
 IsOpenFault image Fault = Unit {0}
 IsOpenFault image (Damaged file at) = IsDamaged image file at
 IsOpenFault image (UnknownVersion n) = IsOfAnotherVersion image n
+IsOpenFault image NoRoom = Unit {0}
 IsOpenFault image OutOfMemory = Unit {0}
 
 -- where reads and each image held the same before, each image of a crash at any moment holds it

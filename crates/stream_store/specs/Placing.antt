@@ -1,14 +1,15 @@
--- Where messages that wait for a commit are going to lie, and whether there is a place for one more.
-use Rattle.std.specs.Prelude.{ℕ, Bool, false, List, Option, Some, None, length, option_map, is_some}
+-- Where messages that wait for a commit are going to lie, and where one more would go.
+use Rattle.std.specs.Prelude.{◌≤◌, ◌<◌, ◌+◌, ◌^◌, ℕ, Bool, List, Option, Some, None, length, option_map, is_some}
 use Rattle.effects.specs.declared.effect.Effect.{Effect}
 use Rattle.effects.specs.declared.effect.Effect.TheVariants.{MakeStream, ChangeStream, DropStream, PutHere, Skip, Remove, MakeConsumer, DropConsumer, Deliver, Acked, Due, GivenUp, Now}
+use Rattle.js_base.specs.declared.spot.Spot.{Spot}
 use Rattle.op_records.specs.Blocks.{spelled_message}
 use Rattle.block_table.specs.declared.placing.Placing.{Placing}
 use Rattle.block_table.specs.Blocks.{Blocks}
 use Rattle.block_table.specs.Placings.{place, restarted}
 use Rattle.block_table.specs.Rooms.{in_use}
 use Rattle.block_writing.specs.Planning.{Planned, begun, message_by, planned, spots_in}
-use Rattle.stream_store.specs.Steps.{steps_of, with_steps}
+use Rattle.stream_store.specs.Steps.{batch_steps, with_steps}
 
 -- the plan of these changes, None if a message of theirs has no place
 abbrev pub plan_of : Blocks → List Effect → Option Planned
@@ -39,13 +40,21 @@ placing_then b p (Now moment) = Some p
 abbrev pub placing_behind : Blocks → List Effect → Option Placing
 placing_behind b es = option_map (λ made. made.placing) (plan_of b es)
 
-abbrev pub has_place : Blocks → ℕ → Option Placing → Bool
-has_place b len None = false
-has_place b len (Some p) = is_some (place b len p)
+abbrev pub spot_by : Blocks → ℕ → Option Placing → Option Spot
+spot_by b len None = None
+spot_by b len (Some p) = option_map (λ r. r.0) (place b len p)
 
--- a message of so many bytes has a place behind these changes
+-- where a message of so many bytes goes behind these changes, if there is a place
+abbrev pub spot_behind : Blocks → List Effect → ℕ → Option Spot
+spot_behind b es len = spot_by b len (placing_behind b es)
+
+-- a spot that a message may have: behind the files of the logs, and it ends below 2^32
+pub record IsMessageSpot (spot : Spot) : Type 0 where
+  pub behind_logs : 2 ≤ spot.file
+  pub ends : spot.at + spot.len < 2 ^ 32
+
 abbrev pub has_room : Blocks → List Effect → ℕ → Bool
-has_room b es len = has_place b len (placing_behind b es)
+has_room b es len = is_some (spot_behind b es len)
 
 abbrev pub used_by : Blocks → Option Placing → ℕ
 used_by b None = 0
@@ -58,7 +67,7 @@ used_behind b es = used_by b (placing_behind b es)
 -- where messages lie once these changes are committed
 abbrev pub blocks_by : Blocks → List Effect → Option Planned → Blocks
 blocks_by b es None = b
-blocks_by b es (Some made) = with_steps (steps_of es (spots_in made.records)) b
+blocks_by b es (Some made) = with_steps (batch_steps es (spots_in made.records)) b
 
 abbrev pub blocks_then : Blocks → List Effect → Blocks
 blocks_then b es = blocks_by b es (plan_of b es)

@@ -18,7 +18,7 @@ use Rattle.log_records.specs.Unread.{stored_messages}
 use Rattle.log_records.specs.declared.log.LogRead.{LogRead}
 use Rattle.stream_store.specs.Holding.{last_of, logged}
 use Rattle.stream_store.specs.declared.fault.OpenFault.{OpenFault}
-use Rattle.stream_store.specs.declared.fault.OpenFault.TheVariants.{Fault, Damaged, UnknownVersion, NoMemory as OutOfMemory}
+use Rattle.stream_store.specs.declared.fault.OpenFault.TheVariants.{Fault, Damaged, UnknownVersion, NoRoom, NoMemory as OutOfMemory}
 use Rattle.stream_store.specs.declared.reading.Found.{Found}
 
 -- other messages in the place of its own
@@ -48,6 +48,7 @@ abbrev pub IsBlocksFault : LogRead → Disk → OpenFault → Type 0
 IsBlocksFault read disk Fault = Unit {0}
 IsBlocksFault read disk (Damaged file at) = AreDamaged disk.seen read.table (last_of read.durable) (stored_messages read.durable) file at
 IsBlocksFault read disk (UnknownVersion n) = ⊥
+IsBlocksFault read disk NoRoom = ⊥
 IsBlocksFault read disk OutOfMemory = Unit {0}
 
 -- the log and the blocks give it, and a stream can be restored to it

@@ -13,7 +13,7 @@ use Rattle.block_writing.specs.Laws.{ArePlannedBy}
 use Rattle.block_writing.specs.declared.run.Run.{Run}
 use Rattle.block_writing.specs.Planning.{Planned, spots_in}
 use Rattle.stream_store.specs.Alternating.{first_batch}
-use Rattle.stream_store.specs.Steps.{steps_of, with_steps}
+use Rattle.stream_store.specs.Steps.{batch_steps, with_steps}
 use Rattle.stream_store.specs.declared.staging.Staged.{Staged}
 
 -- a block of a file, of which only its number counts
@@ -38,7 +38,7 @@ pub record IsPrepared (b : Blocks) (es : List Effect) (staged : Staged) : Type 0
   pub made : Planned
   pub planned : ArePlannedBy b es made
   pub runs : staged.runs.items ≡ made.runs
-  pub steps : staged.steps.items ≡ steps_of es (spots_in made.records)
+  pub steps : staged.steps.items ≡ batch_steps es (spots_in made.records)
   pub behind : AreBehindLogs staged.blocks.items
   pub left : (file : ℕ) → has_block b file ≡ true → has_block (with_steps staged.steps.items b) file ≡ false → is_among staged.blocks.items file ≡ true
   pub begun : (file : ℕ) → is_written staged.runs.items file ≡ true → is_among staged.blocks.items file ≡ true

@@ -5,6 +5,7 @@ use Rattle.js_base.specs.declared.spot.Spot.{Spot}
 use Rattle.effects.specs.declared.effect.Effect.{Effect}
 use Rattle.effects.specs.declared.effect.Effect.TheVariants.{MakeStream, ChangeStream, DropStream, PutHere, Skip, Remove, MakeConsumer, DropConsumer, Deliver, Acked, Due, GivenUp, Now}
 use Rattle.block_table.specs.Blocks.{Blocks, no_blocks}
+use Rattle.block_table.specs.Closing.{closed}
 use Rattle.block_table.specs.Puts.{put, removed}
 use Rattle.stream_store.specs.declared.steps.Step.{Step}
 use Rattle.stream_store.specs.declared.steps.Step.TheVariants as step
@@ -15,6 +16,7 @@ abbrev pub with_step : Step → Blocks → Blocks
 with_step (step.Put seq spot) b = unwrap_or (put seq spot b) b
 with_step (step.Remove low high) b = removed low high b
 with_step step.Clear b = no_blocks
+with_step step.Close b = closed b
 
 -- one step after the other
 abbrev pub with_steps : List Step → Blocks → Blocks
@@ -26,6 +28,7 @@ abbrev pub is_loss : Step → Bool
 is_loss (step.Put seq spot) = false
 is_loss (step.Remove low high) = true
 is_loss step.Clear = true
+is_loss step.Close = false
 
 -- messages go by one of them
 abbrev pub takes_away : List Step → Bool
@@ -48,6 +51,10 @@ steps_of (Acked name low high ∷ es) spots = steps_of es spots
 steps_of (Due name seq due ∷ es) spots = steps_of es spots
 steps_of (GivenUp name moment ∷ es) spots = steps_of es spots
 steps_of (Now moment ∷ es) spots = steps_of es spots
+
+-- and that of the end of their batch
+abbrev pub batch_steps : List Effect → List Spot → List Step
+batch_steps es spots = steps_of es spots ++ step.Close ∷ []
 
 -- whatever changes come behind this one, its step was added, if it has one, and the spots are left that are not its message's
 abbrev pub AddsStep : List Step → Effect → List Spot → List Step → List Spot → Type 0

@@ -8,6 +8,7 @@ use Rattle.gate_log.specs.LogState.{LogState}
 use Rattle.gate_log.specs.Settled.{IsSettled}
 use Rattle.block_table.specs.Blocks.{Blocks}
 use Rattle.block_writing.specs.Runs.{AreApart, IsShort}
+use Rattle.block_writing.specs.Writing.{AreWithin}
 use Rattle.stream_store.specs.Alternating.{begun_next}
 use Rattle.stream_store.specs.Base.{IsBaseOf}
 use Rattle.stream_store.specs.Committing.{IsNextBatch}
@@ -16,12 +17,17 @@ use Rattle.stream_store.specs.Staging.{IsStaged, IsStagedFirst}
 use Rattle.stream_store.specs.Steps.{with_steps}
 use Rattle.stream_store.specs.declared.staging.Staged.{Staged}
 
--- no two runs are in one file, the log may grow, and it has room for the batch
+-- no two runs are in one file, batches may be appended to the log, and with this one it is not too long
 pub record IsReady (log : LogState) (staged : Staged) : Type 0 where
   pub short : All IsShort staged.runs.items
   pub apart : AreApart staged.runs.items
   pub head : IsSome log.head
-  pub fits : log.end + 10 + length staged.batch ≤ 2 ^ 31
+  pub end : log.end + 10 + length staged.batch ≤ 2 ^ 31
+
+-- the log has room for the batch, and each file for its run
+pub record HasStagedRoom (log : LogState) (staged : Staged) (disk : Disk) : Type 0 where
+  pub in_log : log.end + 10 + length staged.batch ≤ length (disk.seen log.file)
+  pub in_files : AreWithin disk staged.runs.items
 
 -- it was staged for changes that lead from the base of the disk to another
 pub record IsStagedOn (log : LogState) (b : Blocks) (base next : Durable) (staged : Staged) (disk : Disk) : Type 0 where

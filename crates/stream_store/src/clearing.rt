@@ -1,19 +1,21 @@
-//! Clearing the log that is not current, and files that are no blocks.
+//! Shutting the log that is not current, and clearing files that are no blocks.
 
-ghost use Rattle.std.specs.Prelude.{◌≡◌, ◌≢◌, ◌≤◌, false, IsErr, OnOk, length};
+ghost use Rattle.std.specs.Prelude.{◌≡◌, ◌≢◌, ◌≤◌, [], false, None, IsErr, OnOk};
 ghost use Rattle.js_base.specs.Causes.{HasCause};
 ghost use Rattle.vol_disk.specs.Does.{Rests};
 ghost use Rattle.vol_disk.specs.Images.{IsDurable};
 ghost use Rattle.vol_disk.specs.Moments.{Quiet};
 ghost use Rattle.block_table.specs.Blocks.{Blocks, has_block};
 ghost use Rattle.effects.specs.declared.durable.Durable.{Durable};
+ghost use Rattle.block_writing.specs.Writing.{AreAsLong};
+ghost use Rattle.gate_log.specs.LogFile.{HasOpen};
 ghost use Rattle.gate_log.specs.Starting.{Starts};
 ghost use Rattle.stream_store.specs.Alternating.{other_file as other_in};
 ghost use Rattle.stream_store.specs.Base.{IsBaseOf};
 ghost use Rattle.stream_store.specs.Clearing.{AreCleared, IsCleared, IsOtherClosed, IsUsed, Spares};
 
 use block_table::BlockTable;
-use gate_log::{GateLog, clear_log};
+use gate_log::GateLog;
 use message_block::drop_block;
 use vol_disk::{Failed, Vol};
 
@@ -30,18 +32,20 @@ pub(crate) fn other_file(file: u32) -> u32
     if file == 0 { 1 } else { 0 }
 }
 
-/// Clears the log that is not the current one, if it has more than a head and a closed gate. A crash at any moment leaves it as it was or without an open batch, and
-/// no other file is touched.
+/// Shuts the log that is not the current one, if a batch is open in it. It stays as long as it was. A crash at any moment leaves it as it was or without an open
+/// batch, and no other file is touched.
 pub(crate) fn close_other<V: Vol>(vol: &mut V, log: &GateLog) -> Result<(), Failed>
     requires base { V.told → (b : Blocks) × (base : Durable) × IsBaseOf log.now b base (V.disk vol.old) }
     ensures closed { V.told → OnOk result (IsOtherClosed log.now (V.disk vol.new)) }
     ensures durable { V.told → OnOk result (IsDurable (V.disk vol.new) (other_in log.now.file)) }
     ensures any_moment { V.told → Starts (other_in log.now.file) (V.disk vol.old) (V.disk vol.new) }
-    ensures quiet { V.told → length ((V.disk vol.old).seen (other_in log.now.file)) ≤ 21 → Quiet (V.disk vol.old) (V.disk vol.new) }
+    ensures as_long { V.told → OnOk result (AreAsLong (V.disk vol.old) (V.disk vol.new)) }
+    ensures quiet { V.told → HasOpen ((V.disk vol.old).seen (other_in log.now.file)) None [] → Quiet (V.disk vol.old) (V.disk vol.new) }
     ensures cause { HasCause (V.faults vol.old) (V.faults vol.new) (IsErr result) }
+    ensures refusals { V.refusals vol.old ≤ V.refusals vol.new }
     ensures later { (V.disk vol.old).moment ≤ (V.disk vol.new).moment }
 {
-    clear_log(vol, other_file(log.file()))
+    GateLog::shut(vol, other_file(log.file()))
 }
 
 /// Cuts a file that is no log to nothing, if it is no block and has bytes, and syncs it.
@@ -51,6 +55,7 @@ fn clear_file<V: Vol>(vol: &mut V, table: &BlockTable, file: u32) -> Result<(), 
     ensures spares { V.told → Spares (IsUsed table.now) (V.disk vol.old) (V.disk vol.new) }
     ensures elsewhere { V.told → (other : _) → other ≢ file → Rests other (V.disk vol.old) (V.disk vol.new) }
     ensures cause { HasCause (V.faults vol.old) (V.faults vol.new) (IsErr result) }
+    ensures refusals { V.refusals vol.old ≤ V.refusals vol.new }
     ensures later { (V.disk vol.old).moment ≤ (V.disk vol.new).moment }
 {
     if table.has_block(file) {
@@ -68,6 +73,7 @@ pub(crate) fn clear_files<V: Vol>(vol: &mut V, table: &BlockTable) -> Result<(),
     ensures cleared { V.told → OnOk result (AreCleared table.now (V.disk vol.old) (V.disk vol.new)) }
     ensures spares { V.told → Spares (IsUsed table.now) (V.disk vol.old) (V.disk vol.new) }
     ensures cause { HasCause (V.faults vol.old) (V.faults vol.new) (IsErr result) }
+    ensures refusals { V.refusals vol.old ≤ V.refusals vol.new }
     ensures later { (V.disk vol.old).moment ≤ (V.disk vol.new).moment }
 {
     let end = vol.files_end()?.min(FILES) as u32;

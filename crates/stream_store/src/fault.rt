@@ -1,10 +1,9 @@
-//! Why a store was not opened, or a commit not made.
+//! Why a store was not opened, a commit not made, or no room was asked for.
 
 ghost use Rattle.std.specs.Prelude.{◌≡◌};
 ghost use Rattle.stream_store.specs.Faults.{open_fault, records_fault};
 
 use block_reading::MessagesFault;
-use block_writing::PlanFault;
 use gate_log::LogFault;
 use js_base::NoMemory;
 use log_records::ReadFault;
@@ -27,9 +26,12 @@ pub enum OpenFault {
     /// than 39 bytes, and any other file if it has bytes. A log that is longer than 20 bytes is told at 20, its first gate, and any other file at 0.
     #[error("file {file} is damaged at {at}")]
     Damaged { file: u32, at: u64 },
-    /// The format of a log has another version than 2.
+    /// The format of a log has another version than 3.
     #[error("unknown version {0}")]
     UnknownVersion(u16),
+    /// The volume was never used, and had no room for a first log. Its count of refusals rose.
+    #[error("no room")]
+    NoRoom,
     #[error("out of memory")]
     NoMemory,
 }
@@ -41,7 +43,7 @@ impl OpenFault {
     {
         match fault {
             LogFault::Fault => OpenFault::Fault,
-            LogFault::Full | LogFault::NoMemory => OpenFault::NoMemory,
+            LogFault::NoMemory => OpenFault::NoMemory,
             LogFault::Damaged(at) => OpenFault::Damaged { file, at },
             LogFault::UnknownVersion(version) => OpenFault::UnknownVersion(version),
         }
@@ -96,15 +98,12 @@ impl From<NoMemory> for OpenFault {
     }
 }
 
-/// Why a commit was not made. After `Full`, `Worn` and `NoMemory` all is as it was, and the commit can be tried again.
+/// Why a commit was not made. After `Worn` and `NoMemory` all is as it was, and the commit can be tried again.
 #[derive(Clone, Copy, Debug, PartialEq, Eq, Error)]
 pub enum CommitFault {
     /// The volume failed, and its count of faults rose. A crash leaves what the volume held before, or that with the commit: open the store again.
     #[error("the volume failed")]
     Fault,
-    /// With the commit the log would be longer than 2^31 bytes.
-    #[error("log full")]
-    Full,
     /// The log would be left, and the next one would have a generation of 2^62.
     #[error("numbers used up")]
     Worn,
@@ -122,35 +121,6 @@ impl From<Failed> for CommitFault {
     }
 }
 
-impl From<StageFault> for CommitFault {
-    ghost use Rattle.stream_store.specs.Faults.{stage_fault};
-
-    ghost from_gives = { λ fault told. told ≡ stage_fault fault };
-
-    fn from(fault: StageFault) -> CommitFault {
-        match fault {
-            StageFault::Full => CommitFault::Full,
-            StageFault::NoMemory => CommitFault::NoMemory,
-        }
-    }
-}
-
-impl From<LogFault> for CommitFault {
-    ghost use Rattle.stream_store.specs.Faults.{start_fault};
-
-    ghost from_gives = { λ fault told. told ≡ start_fault fault };
-
-    fn from(fault: LogFault) -> CommitFault {
-        match fault {
-            LogFault::Fault => CommitFault::Fault,
-            LogFault::Full
-            | LogFault::NoMemory
-            | LogFault::Damaged(_)
-            | LogFault::UnknownVersion(_) => CommitFault::NoMemory,
-        }
-    }
-}
-
 impl From<NoMemory> for CommitFault {
     ghost use Rattle.stream_store.specs.declared.fault.CommitFault.TheVariants.{NoMemory as OutOfMemory};
 
@@ -161,32 +131,33 @@ impl From<NoMemory> for CommitFault {
     }
 }
 
-/// Why a commit was not staged. All is as it was.
-#[derive(Clone, Copy, Debug, PartialEq, Eq)]
-pub(crate) enum StageFault {
-    /// With it the log would be longer than 2^31 bytes.
-    Full,
+/// Why it is not known whether there is room.
+#[derive(Clone, Copy, Debug, PartialEq, Eq, Error)]
+pub enum RoomFault {
+    /// The volume failed, and its count of faults rose. A crash leaves what the volume held before: open the store again.
+    #[error("the volume failed")]
+    Fault,
+    /// All is as it was.
+    #[error("out of memory")]
     NoMemory,
 }
 
-impl From<PlanFault> for StageFault {
-    ghost use Rattle.stream_store.specs.Faults.{plan_fault};
+impl From<Failed> for RoomFault {
+    ghost use Rattle.stream_store.specs.declared.fault.RoomFault.TheVariants.{Fault as VolumeFault};
 
-    ghost from_gives = { λ fault told. told ≡ plan_fault fault };
+    ghost from_gives = { λ failed fault. fault ≡ VolumeFault };
 
-    fn from(fault: PlanFault) -> StageFault {
-        match fault {
-            PlanFault::NoRoom | PlanFault::NoMemory => StageFault::NoMemory,
-        }
+    fn from(_failed: Failed) -> RoomFault {
+        RoomFault::Fault
     }
 }
 
-impl From<NoMemory> for StageFault {
-    ghost use Rattle.stream_store.specs.declared.fault.StageFault.TheVariants.{NoMemory as OutOfMemory};
+impl From<NoMemory> for RoomFault {
+    ghost use Rattle.stream_store.specs.declared.fault.RoomFault.TheVariants.{NoMemory as OutOfMemory};
 
     ghost from_gives = { λ refused fault. fault ≡ OutOfMemory };
 
-    fn from(_refused: NoMemory) -> StageFault {
-        StageFault::NoMemory
+    fn from(_refused: NoMemory) -> RoomFault {
+        RoomFault::NoMemory
     }
 }

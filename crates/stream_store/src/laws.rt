@@ -1,7 +1,10 @@
 //! Laws of the definitions.
 
 ghost use Rattle.stream_store.specs.Laws.{LawCounting, LawHolding, LawPlacing};
+ghost use Rattle.stream_store.specs.Reserving.{LawReserving};
 ghost use Rattle.stream_store.specs.Waiting.{LawWaiting};
+
+use vol_disk::Vol;
 
 /// An image of a volume holds one thing, or has one first fault, and not both; and one that was never begun holds a vacant place.
 pub fn law_holding()
@@ -18,7 +21,12 @@ pub fn law_placing()
     ensures { LawPlacing }
 {}
 
-/// There is room for a message as long as fewer files than all are in use by blocks and by what waits, and a commit leaves no more blocks than that.
+/// Changes that wait have room for their messages if those before them had it and each message has it at its spot, also on a volume that got longer.
+pub fn law_reserving<V: Vol>(before: &V, after: &V)
+    ensures { LawReserving (V.disk before.now) (V.disk after.now) }
+{}
+
+/// There is a place for a message as long as fewer files than all are in use by blocks and by what waits, and a commit leaves no more blocks than that.
 pub fn law_counting()
     ensures { LawCounting }
 {}

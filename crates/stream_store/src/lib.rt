@@ -10,12 +10,14 @@ pub mod laws;
 mod logs;
 mod missing;
 mod reading;
+mod reserving;
 mod room;
+mod rooms;
 mod staging;
 mod steps;
 mod store;
 mod writing;
 
-pub use fault::{CommitFault, OpenFault};
+pub use fault::{CommitFault, OpenFault, RoomFault};
 pub use room::message_len;
 pub use store::Store;

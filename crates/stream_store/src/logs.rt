@@ -12,10 +12,10 @@ ghost use Rattle.stream_store.specs.Opening.{RestsBut};
 ghost use Rattle.op_records.specs.Spelling.{spelled_vacant};
 ghost use Rattle.stream_store.specs.Logs.{is_first};
 ghost use Rattle.stream_store.specs.Finding.{IsCurrent, IsFaultIn, IsLogFault};
-ghost use Rattle.stream_store.specs.Beginning.{IsUnbegun, HoldsNothing, IsOutsideFault};
+ghost use Rattle.stream_store.specs.Beginning.{IsUnbegun, HoldsNothing, IsBeginFault};
 
 use crate::fault::OpenFault;
-use gate_log::GateLog;
+use gate_log::{Batch, GateLog};
 use js_base::NoMemory;
 use op_records::write_vacant;
 use std::alloc::Global;
@@ -23,6 +23,9 @@ use vol_disk::Vol;
 
 /// The generation of a volume's first log.
 pub(crate) const FIRST_GENERATION: u64 = 1;
+
+/// How long a volume's first log is: its head, a gate, the batch of a vacant place and the gate behind it.
+pub(crate) const BEGUN_LENGTH: u64 = 39;
 
 /// The current log of a volume, and its file.
 #[derive(Drop, Debug)]
@@ -48,7 +51,9 @@ fn open_log<V: Vol>(vol: &mut V, file: u32) -> Result<GateLog, OpenFault>
     ensures settled { V.told → IfOk result (λ log. (batches : List Bytes) × IsSettled log batches (V.disk vol.new)) }
     ensures fault { V.told → IfErr result (IsFaultIn file (V.disk vol.old).seen) }
     ensures quiet { V.told → Quiet (V.disk vol.old) (V.disk vol.new) }
+    ensures no_room { ¬ IsErrOf result OpenFault.NoRoom }
     ensures cause { HasCause (V.faults vol.old) (V.faults vol.new) (IsErrOf result OpenFault.Fault) }
+    ensures refusals { V.refusals vol.old ≤ V.refusals vol.new }
     ensures later { (V.disk vol.old).moment ≤ (V.disk vol.new).moment }
 {
     match GateLog::open(vol, file) {
@@ -62,7 +67,9 @@ pub(crate) fn open_current<V: Vol>(vol: &mut V) -> Result<Current, OpenFault>
     ensures current { V.told → IfOk result (λ current. IsCurrent current (V.disk vol.old) (V.disk vol.new)) }
     ensures fault { V.told → IfErr result (IsLogFault (V.disk vol.old).seen) }
     ensures quiet { V.told → Quiet (V.disk vol.old) (V.disk vol.new) }
+    ensures no_room { ¬ IsErrOf result OpenFault.NoRoom }
     ensures cause { HasCause (V.faults vol.old) (V.faults vol.new) (IsErrOf result OpenFault.Fault) }
+    ensures refusals { V.refusals vol.old ≤ V.refusals vol.new }
     ensures later { (V.disk vol.old).moment ≤ (V.disk vol.new).moment }
 {
     let zero = open_log(vol, 0)?;
@@ -75,21 +82,24 @@ pub(crate) fn open_current<V: Vol>(vol: &mut V) -> Result<Current, OpenFault>
     }
 }
 
-/// The records of a volume's first batch: the place is vacant, and never had a stream.
-fn first_records(alloc: Global) -> Result<Vec<u8>, NoMemory>
-    ensures bytes { IfOk result (λ bytes. bytes.items ≡ spelled_vacant 0) }
-{
-    let mut records = Vec::new(alloc);
-    write_vacant(alloc, 0, &mut records)?;
-    Ok(records)
-}
-
 /// Each byte of a slice is below 256. The type says so, and clauses that speak of numbers need it said.
 pub(crate) fn law_bytes(bytes: &[u8])
     ensures law { All (λ byte. byte < 256) bytes.now }
 {}
 
-/// Makes a log of generation 1 in file 0, whose one batch says that the place is vacant and never had a stream.
+/// A volume's first batch: the place is vacant, and never had a stream.
+fn first_batch(alloc: Global) -> Result<Batch, NoMemory>
+    ensures value { IfOk result (λ batch. batch ≡ spelled_vacant 0) }
+    ensures bytes { IfOk result (All (λ byte. byte < 256)) }
+{
+    let mut records = Vec::new(alloc);
+    write_vacant(alloc, 0, &mut records)?;
+    let bytes = records.as_slice();
+    law_bytes(bytes);
+    Batch::of(alloc, bytes)
+}
+
+/// Makes a log of generation 1 in file 0, whose one batch says that the place is vacant and never had a stream. `NoRoom` comes if there is no room for it.
 pub(crate) fn begin_log<V: Vol>(alloc: Global, vol: &mut V) -> Result<GateLog, OpenFault>
     requires unbegun { V.told → IsUnbegun (V.disk vol.old) }
     ensures head { IfOk result (λ log. log.head ≡ Some 1) }
@@ -98,19 +108,18 @@ pub(crate) fn begin_log<V: Vol>(alloc: Global, vol: &mut V) -> Result<GateLog, O
     ensures base { V.told → IfOk result (λ log. IsBaseOf log no_blocks (vacant 0) (V.disk vol.new)) }
     ensures elsewhere { V.told → RestsBut 0 (V.disk vol.old) (V.disk vol.new) }
     ensures any_moment { V.told → HoldsNothing (V.disk vol.old) (V.disk vol.new) }
-    ensures only { IfErr result IsOutsideFault }
+    ensures only { IfErr result IsBeginFault }
+    ensures refused { HasCause (V.refusals vol.old) (V.refusals vol.new) (IsErrOf result OpenFault.NoRoom) }
     ensures cause { HasCause (V.faults vol.old) (V.faults vol.new) (IsErrOf result OpenFault.Fault) }
+    ensures refusals { V.refusals vol.old ≤ V.refusals vol.new }
     ensures later { (V.disk vol.old).moment ≤ (V.disk vol.new).moment }
 {
-    let records = first_records(alloc)?;
-    let mut log = match GateLog::start(alloc, vol, 0, FIRST_GENERATION) {
-        Ok(log) => log,
-        Err(fault) => return Err(OpenFault::of_log(0, fault)),
-    };
-    let bytes = records.as_slice();
-    law_bytes(bytes);
-    match log.append(alloc, vol, bytes) {
-        Ok(()) => Ok(log),
-        Err(fault) => Err(OpenFault::of_log(0, fault)),
+    let batch = first_batch(alloc)?;
+    let len = GateLog::make_room(vol, 0, BEGUN_LENGTH)?;
+    if len < BEGUN_LENGTH {
+        return Err(OpenFault::NoRoom);
     }
+    let mut log = GateLog::start(vol, 0, FIRST_GENERATION)?;
+    log.append_batch(vol, &batch)?;
+    Ok(log)
 }

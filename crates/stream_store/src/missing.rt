@@ -9,10 +9,8 @@ ghost use Rattle.stream_store.specs.Untouched.{AreBlocksGone, HasMore, IsTouched
 
 use crate::clearing::{FILES, FIRST_FILE};
 use crate::fault::OpenFault;
+use crate::logs::BEGUN_LENGTH;
 use vol_disk::Vol;
-
-/// How long a log is at most that a first start left, if it was cut short: its head, a gate, the batch of a vacant place and the gate behind it.
-const BEGUN_LENGTH: u64 = 39;
 
 /// The offset of the first gate of a log.
 const FIRST_GATE: u64 = 20;
@@ -41,7 +39,9 @@ fn check_file<V: Vol>(vol: &mut V, file: u32) -> Result<(), OpenFault>
     ensures durable { V.told → OnOk result (IsDurable (V.disk vol.new) file) }
     ensures fault { V.told → IfErr result (IsFaultWhere (λ other at. (other ≡ file) × HasMore (V.disk vol.old).seen file at)) }
     ensures quiet { V.told → Quiet (V.disk vol.old) (V.disk vol.new) }
+    ensures no_room { ¬ IsErrOf result OpenFault.NoRoom }
     ensures cause { HasCause (V.faults vol.old) (V.faults vol.new) (IsErrOf result OpenFault.Fault) }
+    ensures refusals { V.refusals vol.old ≤ V.refusals vol.new }
     ensures later { (V.disk vol.old).moment ≤ (V.disk vol.new).moment }
 {
     let len = vol.len(file)?;
@@ -62,7 +62,9 @@ pub(crate) fn check_untouched<V: Vol>(vol: &mut V) -> Result<(), OpenFault>
     ensures gone { V.told → OnOk result (AreBlocksGone (V.disk vol.new)) }
     ensures fault { V.told → IfErr result (IsFaultWhere (IsTouchedAt (V.disk vol.old).seen)) }
     ensures quiet { V.told → Quiet (V.disk vol.old) (V.disk vol.new) }
+    ensures no_room { ¬ IsErrOf result OpenFault.NoRoom }
     ensures cause { HasCause (V.faults vol.old) (V.faults vol.new) (IsErrOf result OpenFault.Fault) }
+    ensures refusals { V.refusals vol.old ≤ V.refusals vol.new }
     ensures later { (V.disk vol.old).moment ≤ (V.disk vol.new).moment }
 {
     let end = vol.files_end()?.min(FILES) as u32;

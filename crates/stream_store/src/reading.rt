@@ -40,6 +40,7 @@ fn sync_all<V: Vol>(vol: &mut V, blocks: &[Block]) -> Result<(), Failed>
     ensures synced { V.told → OnOk result ((file : _) → is_among blocks.now file ≡ true → IsDurable (V.disk vol.new) file) }
     ensures quiet { V.told → Quiet (V.disk vol.old) (V.disk vol.new) }
     ensures cause { HasCause (V.faults vol.old) (V.faults vol.new) (IsErr result) }
+    ensures refusals { V.refusals vol.old ≤ V.refusals vol.new }
     ensures later { (V.disk vol.old).moment ≤ (V.disk vol.new).moment }
 {
     for block in blocks {
@@ -54,6 +55,7 @@ fn sync_blocks<V: Vol>(vol: &mut V, table: &BlockTable) -> Result<(), Failed>
     ensures table { OnOk result (IsTable table.now) }
     ensures quiet { V.told → Quiet (V.disk vol.old) (V.disk vol.new) }
     ensures cause { HasCause (V.faults vol.old) (V.faults vol.new) (IsErr result) }
+    ensures refusals { V.refusals vol.old ≤ V.refusals vol.new }
     ensures later { (V.disk vol.old).moment ≤ (V.disk vol.new).moment }
 {
     sync_all(vol, table.older())?;
@@ -107,7 +109,9 @@ fn read_blocks<V: Vol>(alloc: Global, vol: &mut V, read: LogRead) -> Result<Foun
     ensures synced { V.told → IfOk result (λ found. AreSynced found.table (V.disk vol.new)) }
     ensures fault { V.told → IfErr result (IsBlocksFault read (V.disk vol.old)) }
     ensures quiet { V.told → Quiet (V.disk vol.old) (V.disk vol.new) }
+    ensures no_room { ¬ IsErrOf result OpenFault.NoRoom }
     ensures cause { HasCause (V.faults vol.old) (V.faults vol.new) (IsErrOf result OpenFault.Fault) }
+    ensures refusals { V.refusals vol.old ≤ V.refusals vol.new }
     ensures later { (V.disk vol.old).moment ≤ (V.disk vol.new).moment }
 {
     sync_blocks(vol, &read.table)?;
@@ -137,7 +141,9 @@ pub(crate) fn read_current<V: Vol>(
     ensures openable { IfOk result (λ found. IsOpenable found.durable) }
     ensures fault { V.told → IfErr result (IsRecordsFault current.now.file current.now.log (V.disk vol.old)) }
     ensures quiet { V.told → Quiet (V.disk vol.old) (V.disk vol.new) }
+    ensures no_room { ¬ IsErrOf result OpenFault.NoRoom }
     ensures cause { HasCause (V.faults vol.old) (V.faults vol.new) (IsErrOf result OpenFault.Fault) }
+    ensures refusals { V.refusals vol.old ≤ V.refusals vol.new }
     ensures later { (V.disk vol.old).moment ≤ (V.disk vol.new).moment }
 {
     let read = match read_log(alloc, vol, &current.log) {

@@ -1,13 +1,13 @@
-//! Whether there is a place for a message.
+//! Where there is a place for a message.
 
-ghost use Rattle.std.specs.Prelude.{◌≡◌, ◌+◌, ◌<◌, ◌^◌, IsTrue, None, Some, if◌then◌else◌, length};
+ghost use Rattle.std.specs.Prelude.{◌≡◌, ◌+◌, ◌<◌, ◌^◌, IfSome, IsTrue, None, Some, if◌then◌else◌, length};
 ghost use Rattle.std.specs.List.{list_all};
 ghost use Rattle.op_records.specs.Allowed.{is_record};
-ghost use Rattle.stream_store.specs.Placing.{has_room, placing_then};
+ghost use Rattle.stream_store.specs.Placing.{IsMessageSpot, placing_then, spot_behind};
 
 use block_table::{BlockTable, Placing};
 use effects::Effect;
-use js_base::Blob;
+use js_base::{Blob, Spot};
 
 /// How many bytes a message takes in a block besides its subject, header block and payload.
 const FIXED_BYTES: usize = 30;
@@ -43,16 +43,19 @@ fn place_effect(placing: &mut Placing, table: &BlockTable, effect: &Effect) -> b
     }
 }
 
-/// Whether a message of so many bytes has a place behind these changes.
-pub(crate) fn room_behind(table: &BlockTable, tail: &[Effect], len: u32) -> bool
+/// Where a message of so many bytes goes behind these changes, if there is a place.
+pub(crate) fn spot_in(table: &BlockTable, tail: &[Effect], len: u32) -> Option<Spot>
     requires records { IsTrue (list_all is_record tail.now) }
-    ensures value { result ≡ has_room table.now tail.now len }
+    ensures value { result ≡ spot_behind table.now tail.now len }
+    ensures spot { IfSome result IsMessageSpot }
 {
+    // that the blocks of a table are behind the logs is what the proof takes from this call
+    let _ = table.older();
     let mut placing = table.placing();
     for effect in tail {
         if !place_effect(&mut placing, table, effect) {
-            return false;
+            return None;
         }
     }
-    placing.place(table, len).is_some()
+    placing.place(table, len)
 }

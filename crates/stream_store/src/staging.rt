@@ -1,22 +1,22 @@
 //! What a commit is going to write.
 
-ghost use Rattle.std.specs.Prelude.{◌≡◌, ◌+◌, ◌<◌, ◌≤◌, ◌^◌, ◌++◌, IfOk, IsErrOf, IsTrue, OnOk, length, map};
+ghost use Rattle.std.specs.Prelude.{◌≡◌, ◌<◌, ◌≤◌, ◌^◌, ◌++◌, IfOk, IsTrue, OnOk, length, map};
 ghost use Rattle.std.specs.List.{list_all};
 ghost use Rattle.block_table.specs.Tables.{IsTable};
+ghost use Rattle.block_writing.specs.Plans.{IsPlan};
 ghost use Rattle.op_records.specs.Allowed.{is_record};
 ghost use Rattle.stream_store.specs.Committing.{batch_length};
 ghost use Rattle.stream_store.specs.Placing.{can_place};
 ghost use Rattle.stream_store.specs.Staging.{IsStaged, block_of, blocks_of};
 ghost use Rattle.stream_store.specs.Steps.{blocks_in, takes_away};
 
-use crate::fault::StageFault;
 use crate::late::LateTable;
 use crate::logs::law_bytes;
 use crate::steps::{Step, steps_of};
 use block_table::{Block, BlockTable};
-use block_writing::{Run, plan};
+use block_writing::{Plan, PlanFault, Run, plan};
 use effects::Effect;
-use gate_log::{Batch, GateLog};
+use gate_log::Batch;
 use js_base::NoMemory;
 use std::alloc::Global;
 
@@ -62,7 +62,7 @@ pub(crate) fn take_away(steps: &[Step]) -> bool
 {
     for step in steps {
         match step {
-            Step::Put { .. } => {}
+            Step::Put { .. } | Step::Close => {}
             Step::Remove { .. } | Step::Clear => return true,
         }
     }
@@ -90,24 +90,30 @@ pub(crate) fn left_blocks(
     Ok(left)
 }
 
-/// What a commit of these changes is going to write, if the log has room for it, by the table before it.
-fn stage_by(
+/// The plan of these changes, each message of which has a place.
+pub(crate) fn planned(
     alloc: Global,
-    log: &GateLog,
     table: &BlockTable,
     effects: &[Effect],
-) -> Result<Staged, StageFault>
+) -> Result<Plan, NoMemory>
     requires records { IsTrue (list_all is_record effects.now) }
+    ensures plan { IfOk result (IsPlan table.now effects.now) }
+{
+    match plan(alloc, table, effects) {
+        Ok(plan) => Ok(plan),
+        Err(PlanFault::NoRoom | PlanFault::NoMemory) => Err(NoMemory),
+    }
+}
+
+/// What a commit of these changes is going to write, by the table before it.
+fn stage_by(alloc: Global, table: &BlockTable, effects: &[Effect]) -> Result<Staged, NoMemory>
+    requires records { IsTrue (list_all is_record effects.now) }
+    requires short { batch_length effects.now < 2 ^ 32 }
     requires room { IsTrue (can_place table.now effects.now) }
     ensures staged { IfOk result (IsStaged table.now effects.now) }
-    ensures fits { OnOk result (log.now.end + 10 + batch_length effects.now ≤ 2 ^ 31) }
-    ensures full { IsErrOf result StageFault.Full → 2 ^ 31 < log.now.end + 10 + batch_length effects.now }
 {
-    let plan = plan(alloc, table, effects)?;
+    let plan = planned(alloc, table, effects)?;
     let records = plan.batch.as_slice();
-    if !log.fits(records.len()) {
-        return Err(StageFault::Full);
-    }
     law_bytes(records);
     let batch = Batch::of(alloc, records)?;
     let steps = steps_of(alloc, effects, plan.spots.as_slice())?;
@@ -121,21 +127,32 @@ fn stage_by(
     })
 }
 
-/// What a commit of these changes is going to write, if the log has room for it. No step waits for the table then, at `Ok`.
+/// What a commit of these changes is going to write. No step waits for the table then, at `Ok`.
 pub(crate) fn stage(
     alloc: Global,
-    log: &GateLog,
     late: &mut LateTable,
     effects: &[Effect],
-) -> Result<Staged, StageFault>
+) -> Result<Staged, NoMemory>
     requires records { IsTrue (list_all is_record effects.now) }
+    requires short { batch_length effects.now < 2 ^ 32 }
     requires room { IsTrue (can_place (blocks_in late.old) effects.now) }
     ensures staged { IfOk result (IsStaged (blocks_in late.old) effects.now) }
     ensures same { blocks_in late.new ≡ blocks_in late.old }
     ensures none { OnOk result (length late.new.steps.items ≤ late.new.taken) }
-    ensures fits { OnOk result (log.now.end + 10 + batch_length effects.now ≤ 2 ^ 31) }
-    ensures full { IsErrOf result StageFault.Full → 2 ^ 31 < log.now.end + 10 + batch_length effects.now }
 {
     late.catch_up()?;
-    stage_by(alloc, log, &late.table, effects)
+    stage_by(alloc, &late.table, effects)
+}
+
+/// All of these files that are to be dropped, and all of those.
+pub(crate) fn joined(
+    alloc: Global,
+    these: &[Block],
+    those: &[Block],
+) -> Result<Vec<Block>, NoMemory>
+    ensures value { IfOk result (λ all. all.items ≡ these.now ++ those.now) }
+{
+    let mut all = Vec::from_slice(alloc, these)?;
+    add_blocks(&mut all, those)?;
+    Ok(all)
 }

@@ -1,7 +1,7 @@
 //! What a commit makes of where messages lie.
 
 ghost use Rattle.std.specs.Prelude.{◌≡◌, ◌≤◌, IfOk, OnErr, OnOk, drop, length};
-ghost use Rattle.stream_store.specs.Steps.{AddsStep, steps_of as steps_in, with_step};
+ghost use Rattle.stream_store.specs.Steps.{AddsStep, batch_steps, with_step};
 
 use block_table::{BlockTable, PutFault};
 use effects::Effect;
@@ -17,6 +17,8 @@ pub(crate) enum Step {
     Remove { low: u64, high: u64 },
     /// All messages go.
     Clear,
+    /// The batch ends, behind which the block being written may be left.
+    Close,
 }
 
 /// Takes a step into a table. A message that does not fit is left out. An `Err` changes nothing.
@@ -35,6 +37,10 @@ pub(crate) fn take_step(table: &mut BlockTable, step: Step) -> Result<(), NoMemo
         }
         Step::Clear => {
             table.clear();
+            Ok(())
+        }
+        Step::Close => {
+            table.close();
             Ok(())
         }
     }
@@ -77,18 +83,19 @@ fn add_step(
     }
 }
 
-/// The steps of changes, whose messages lie at these spots.
+/// The steps of a batch of changes, whose messages lie at these spots.
 pub(crate) fn steps_of(
     alloc: Global,
     effects: &[Effect],
     spots: &[Spot],
 ) -> Result<Vec<Step>, NoMemory>
-    ensures value { IfOk result (λ steps. steps.items ≡ steps_in effects.now spots.now) }
+    ensures value { IfOk result (λ steps. steps.items ≡ batch_steps effects.now spots.now) }
 {
     let mut steps = Vec::new(alloc);
     let mut used = 0;
     for effect in effects {
         used = add_step(&mut steps, effect, spots, used)?;
     }
+    steps.push(Step::Close)?;
     Ok(steps)
 }

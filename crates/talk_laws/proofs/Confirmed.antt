@@ -68,7 +68,7 @@ taken s e now outs new to ack x is =
 none_there : (i : ℕ) (e : Event) (now : ℕ) (outs : List Out) (new : State) (to : Option Bytes) (ack : Ack) → IsEvent (Vacant i) e now Confirmed outs new → e.what ≡ whats.Ack to ack → ⊥
 unfolding answered
 none_there i e now outs new to ack x is =
-    let h = subst (λ (w : What). completed [] (vacant_answer i w now) ≡ told outs new) is x.answers in
+    let h = subst (λ (w : What). completed [] (vacant_answer i w now x.room) ≡ told outs new) is x.answers in
     let no : Refused no_stream ≡ Confirmed = ap (λ (y : Answer). y.reply) h in cc
 
 -- ---- the consumer that is left

@@ -69,7 +69,7 @@ kept_moved s now = refl
 
 pub law_ticked : LawTicked
 unfolding answered
-law_ticked (Vacant i) e now room h q = ap (λ (w : What). completed [] (vacant_answer i w now)) q
+law_ticked (Vacant i) e now room h q = ap (λ (w : What). completed [] (vacant_answer i w now room)) q
 law_ticked (Live s) e now room h q =
     ap (λ (w : What). completed (advance_outs s now) (stream_answer (advance s now) w room)) q
     ∙ ap (λ (outs : List Out). record { reply = Silent; outs = outs ++ []; state = Live (settled (advance s now)) }) h.silent

@@ -201,7 +201,7 @@ done_rests now s h e = record {
 
 pub law_rest : LawRest
 unfolding answered
-law_rest (Vacant i) e now room q l = subst (λ (w : What). IsAtRest (completed [] (vacant_answer i w now)).state) (sym q) tt
+law_rest (Vacant i) e now room q l = subst (λ (w : What). IsAtRest (completed [] (vacant_answer i w now room)).state) (sym q) tt
 law_rest (Live s) e now room q l =
     subst (λ (w : What). IsAtRest (completed (advance_outs s now) (stream_answer (advance s now) w room)).state) (sym q)
     (done_rests (max s.moment now) (settled (advance s now)) (done_settled (max s.moment now) (advance s now) (done_advance s now l)) (own_messages (advance s now)))

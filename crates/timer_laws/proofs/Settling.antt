@@ -43,7 +43,7 @@ settles (Live s) = ap Live (settled_again s)
 
 pub settled_event : LawSettledEvent
 unfolding answered
-settled_event (Vacant i) e now room = settles (vacant_answer i e.what now).state
+settled_event (Vacant i) e now room = settles (vacant_answer i e.what now room).state
 settled_event (Live s) e now room = settles (stream_answer (advance s now) e.what room).state
 
 -- ---- deliveries

@@ -22,16 +22,17 @@ use Rattle.js_model.specs.declared.stream.Message.{Message}
 use Rattle.js_model.specs.declared.stream.State.{State}
 use Rattle.js_model.specs.declared.stream.State.TheVariants.{Vacant, Live}
 use Rattle.js_model.specs.declared.stream.Stream.{Stream}
+use Rattle.js_model.specs.declared.stream_config.StreamConfig.{StreamConfig}
 use Rattle.js_model.specs.Advance.{advance, aged, is_spent, young}
 use Rattle.js_model.specs.Consumers.{making_checks}
-use Rattle.js_model.specs.Events.{message_at, purge_list, stream_answer, without_messages}
+use Rattle.js_model.specs.Events.{message_at, or_no_room, purge_list, stream_answer, without_messages}
 use Rattle.js_model.specs.Refusals.{first_refusal}
 use Rattle.js_model.specs.Retention.{kept}
 use Rattle.js_model.specs.Runs.{messages_of}
 use Rattle.js_model.specs.Streams.{by_name, seqs}
 use Rattle.js_model.specs.Trim.{trim, trim_count, trim_subjects}
 use Rattle.js_model.specs.Verdict.{verdict}
-use Rattle.effects.specs.Effects.{ack_effects, acknowledged_effects, changes_due, delete_effects, delivery_effects, drop_effects, due_effects, ended_effects, ends_some, event_effects, is_skipped, live_effects, made_effects, make_effects, own_effects, publish_effects, sent_effects, settle_effects, skipped, vacant_effects}
+use Rattle.effects.specs.Effects.{ack_effects, acknowledged_effects, change_effects, changes_due, delete_effects, delivery_effects, drop_effects, due_effects, ended_effects, ends_some, event_effects, is_skipped, live_effects, made_effects, make_effects, own_effects, publish_effects, sent_effects, settle_effects, skipped, stream_effects, vacant_effects}
 use Rattle.js_model.specs.Acknowledge.{is_no_delivery}
 use Rattle.effects.specs.Ranges.{Range, ranges}
 use Rattle.effects.specs.TimeEffects.{given_up_effects, has_spent_ids, now_effects, removals, remove_of, time_effects}
@@ -93,11 +94,15 @@ of_made : (s : Stream) (name : Bytes) (config : ConsumerConfig) (e : Option ApiE
 of_made s name config None = refl
 of_made s name config (Some e) = refl
 
-of_make : (s : Stream) (name : Bytes) (config : ConsumerConfig) (update : Bool) (c : Option Consumer) → Timeless (make_effects s name config update c)
-of_make s name config true None = refl
-of_make s name config false None = of_made s name config (first_refusal (making_checks s name config))
-of_make s name config true (Some c) = refl
-of_make s name config false (Some c) = refl
+of_change : (s : Stream) (config : StreamConfig) (room : Bool) → Timeless (change_effects s config room)
+of_change s config true = either _ (effects.ChangeStream config ∷ []) [] refl refl
+of_change s config false = refl
+
+of_make : (s : Stream) (name : Bytes) (config : ConsumerConfig) (update room : Bool) (c : Option Consumer) → Timeless (make_effects s name config update room c)
+of_make s name config true room None = refl
+of_make s name config false room None = of_made s name config (or_no_room room (first_refusal (making_checks s name config)))
+of_make s name config true room (Some c) = refl
+of_make s name config false room (Some c) = refl
 
 of_drop : (c : Option Consumer) → Timeless (drop_effects c)
 of_drop None = refl
@@ -126,12 +131,12 @@ of_ack s n kind (Some c) = either (is_no_delivery c n) [] (acknowledged_effects 
 
 of_own : (a : Stream) (what : What) (room : Bool) → Timeless (own_effects a what room)
 of_own a (Make reply config) room = refl
-of_own a (Change reply config) room = either _ (effects.ChangeStream config ∷ []) [] refl refl
+of_own a (Change reply config) room = of_change a config room
 of_own a (DropStream reply) room = refl
 of_own a (PublishIt p) room = of_publish a p (verdict a p room)
 of_own a (Purge reply pattern below keep) room = of_removals [] a.messages (without_messages a (purge_list a pattern below keep)).messages
 of_own a (Delete reply n) room = of_delete a (message_at a n)
-of_own a (MakeConsumer reply name config update) room = of_make a name config update (by_name a.consumers name)
+of_own a (MakeConsumer reply name config update) room = of_make a name config update room (by_name a.consumers name)
 of_own a (DropConsumer reply name) room = of_drop (by_name a.consumers name)
 of_own a (AckIt reply ack) room = of_ack a ack.seq ack.kind (by_name a.consumers ack.consumer)
 of_own a (PullIt reply name ask) room = refl
@@ -192,30 +197,34 @@ timed s now es h =
     (both (removals [] s.messages (young s moment)) _ (of_removals [] s.messages (young s moment)) (each (given_up_effects moment) (aged s moment).consumers (of_given_up moment)))
     h)
 
-vacant : (i : ℕ) (what : What) (now : ℕ) → are_apart (vacant_effects i what now) ≡ true
-vacant i (Make reply config) now = go (i + 1 == 2 ^ 62)
+of_stream : (i : ℕ) (config : StreamConfig) (now : ℕ) (room : Bool) → are_apart (stream_effects i config now room) ≡ true
+of_stream i config now true = refl
+of_stream i config now false = refl
+
+vacant : (i : ℕ) (what : What) (now : ℕ) (room : Bool) → are_apart (vacant_effects i what now room) ≡ true
+vacant i (Make reply config) now room = go (i + 1 == 2 ^ 62)
   where
-    go : (b : Bool) → are_apart (cond b [] (effects.MakeStream (i + 1) now config ∷ [])) ≡ true
+    go : (b : Bool) → are_apart (cond b [] (stream_effects i config now room)) ≡ true
     go true = refl
-    go false = refl
-vacant i (Change reply config) now = refl
-vacant i (DropStream reply) now = refl
-vacant i (PublishIt p) now = refl
-vacant i (Purge reply pattern below keep) now = refl
-vacant i (Delete reply n) now = refl
-vacant i (MakeConsumer reply name config update) now = refl
-vacant i (DropConsumer reply name) now = refl
-vacant i (AckIt reply ack) now = refl
-vacant i (PullIt reply name ask) now = refl
-vacant i Tick now = refl
-vacant i (AskStream reply) now = refl
-vacant i (MessageGet reply by) now = refl
-vacant i (AskConsumer reply name) now = refl
-vacant i (ConsumerNames reply offset) now = refl
-vacant i (ConsumerList reply offset) now = refl
+    go false = of_stream i config now room
+vacant i (Change reply config) now room = refl
+vacant i (DropStream reply) now room = refl
+vacant i (PublishIt p) now room = refl
+vacant i (Purge reply pattern below keep) now room = refl
+vacant i (Delete reply n) now room = refl
+vacant i (MakeConsumer reply name config update) now room = refl
+vacant i (DropConsumer reply name) now room = refl
+vacant i (AckIt reply ack) now room = refl
+vacant i (PullIt reply name ask) now room = refl
+vacant i Tick now room = refl
+vacant i (AskStream reply) now room = refl
+vacant i (MessageGet reply by) now room = refl
+vacant i (AskConsumer reply name) now room = refl
+vacant i (ConsumerNames reply offset) now room = refl
+vacant i (ConsumerList reply offset) now room = refl
 
 events : (old : State) (what : What) (now : ℕ) (room : Bool) → are_apart (event_effects old what now room) ≡ true
-events (Vacant i) what now room = vacant i what now
+events (Vacant i) what now room = vacant i what now room
 events (Live s) what now room =
     let a = advance s now in
     timed s now (live_effects a what room) (both (own_effects a what room) _ (of_own a what room) (of_settle (skipped a what room) (stream_answer a what room).state))

@@ -38,11 +38,11 @@ left_now told disk vol t clocked image is = (t, clocked.counts_now (disk vol).mo
 module _ (disk : Disk) (store : StoreState) (waiting : List Effect) (state : State) (k : IsBacked disk store waiting state) where
   -- what reads give holds it
   pub read_base : holds disk.seen k.base
-  read_base = ((store.blocks, k.is_base.holds), k.all_lasts)
+  read_base = ((store.blocks, k.is_base.of_log.holds), k.all_lasts)
 
   -- and so does each image that a crash now may leave
   pub left_base : (image : Image) → IsImage disk image → holds image k.base
-  left_base image is = (k.is_base.images image is, k.all_lasts)
+  left_base image is = (k.is_base.of_log.images image is, k.all_lasts)
 
   pub only_base : (b : State) → holds disk.seen b → b ≡ k.base
   only_base b h = only_held disk.seen b k.base h read_base

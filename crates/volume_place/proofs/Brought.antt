@@ -1,5 +1,5 @@
 -- What it comes to that all that waits is committed.
-use Rattle.std.proofs.Common.{◌≡◌, ◌≢◌, ◌≤◌, ◌-◌, ◌^◌, ◌⊎◌, inl, inr, ℕ, List, [], length, Option, Some, None, refl, sym, ap, subst, ◌∙◌, arith}
+use Rattle.std.proofs.Common.{◌≡◌, ◌≤◌, ◌-◌, ◌^◌, ◌⊎◌, inl, inr, ℕ, List, [], length, Option, Some, None, refl, sym, ap, subst, ◌∙◌, arith}
 use Rattle.std.specs.Prelude.{IsTrue, unwrap_or}
 use Rattle.std.specs.List.{list_all}
 use Rattle.std.proofs.Math.Nat.{le_refl}
@@ -22,25 +22,24 @@ use Rattle.stream_store.specs.Holding.{Holds}
 use Rattle.durable_checks.specs.Storable.{IsFormed, IsStorable}
 use Rattle.stream_store.specs.StoreState.{StoreState}
 use Rattle.stream_store.specs.Waiting.{Waits}
-use Rattle.place_engine.specs.Flushing.{FailsFlush, FillsFlush, Flushed, Unflushed, WearsFlush}
+use Rattle.place_engine.specs.Flushing.{FailsFlush, Flushed, Unflushed, WearsFlush}
 use Rattle.place_engine.specs.Stepping.{Elapses, Image, LeavesVolume}
 use Rattle.volume_place.specs.Contents.{Contents}
 use Rattle.volume_place.specs.Images.{IsLeftNow, base, holds, left}
 use Rattle.volume_place.specs.Laws.{only_held}
-use Rattle.volume_place.specs.Leaving.{IsTooLong}
-use Rattle.volume_place.specs.Seeing.{IsFull, seen_of}
+use Rattle.volume_place.specs.Seeing.{seen_of}
 use Rattle.volume_place.specs.Sound.{IsBacked, IsLeftByBoth, IsOnDisk, IsSoundPlace}
 use Rattle.volume_place.proofs.Formed.{formed}
-use Rattle.volume_place.proofs.Bases.{flushed_base, lasts_twice, left_base, read_base}
+use Rattle.volume_place.proofs.Bases.{flushed_base, lasts_twice, read_base}
 use Rattle.block_table.specs.Blocks.{Blocks, blocks}
 use Rattle.stream_store.specs.Placing.{can_place, used_behind}
 use Rattle.stream_store.proofs.Counting.{law_counting}
-use Rattle.stream_store.proofs.Rooms.{law_placing}
+use Rattle.stream_store.proofs.Placings.{law_placing}
 use Rattle.volume_place.specs.Rooms.{MayStore}
 use Rattle.volume_place.proofs.Storing.{has_blocks, may_store}
 
 -- Of a place that goes on.
-module _ {V : Type 0} (told : Type 0) (disk : V → Disk) (faults : V → ℕ) (clocked : (vol : V) → IsClocked (disk vol)) (x : Contents V) (going : x.stopped ≡ None)
+module _ {V : Type 0} (told : Type 0) (disk : V → Disk) (faults refusals : V → ℕ) (clocked : (vol : V) → IsClocked (disk vol)) (x : Contents V) (going : x.stopped ≡ None)
     (h : IsSoundPlace told (disk x.vol) x.store x.waiting x.stopped x.state) where
   abbrev Backed : Type 0
   Backed = IsBacked (disk x.vol) x.store x.waiting x.state
@@ -49,7 +48,7 @@ module _ {V : Type 0} (told : Type 0) (disk : V → Disk) (faults : V → ℕ) (
   backed t = subst (λ (o : Option ℕ). IsOnDisk o (disk x.vol) x.store x.waiting x.state) going (h.on_disk t)
 
   -- what reads give is its base
-  on_base : (t : told) → base told disk x.stopped x.vol (backed t).base
+  pub on_base : (t : told) → base told disk x.stopped x.vol (backed t).base
   on_base t = subst (λ (o : Option ℕ). base told disk o x.vol (backed t).base) (sym going) (t, read_base (disk x.vol) x.store x.waiting x.state (backed t))
 
   off_base : (o : Option ℕ) (b : State) → o ≡ None → base told disk o x.vol b → told × holds (disk x.vol).seen b
@@ -58,11 +57,10 @@ module _ {V : Type 0} (told : Type 0) (disk : V → Disk) (faults : V → ℕ) (
   -- ---- nothing is written
 
   -- nothing waits
-  pub brings_none : (waiting : List Effect) → x.waiting ≡ [] → waiting ≡ [] → Flushed (seen_of told disk faults x) (seen_of told disk faults (record x { waiting = waiting }))
+  pub brings_none : (waiting : List Effect) → x.waiting ≡ [] → waiting ≡ [] → Flushed (seen_of told disk faults refusals x) (seen_of told disk faults refusals (record x { waiting = waiting }))
   brings_none waiting none same = record {
     keeps = record { going = going; state = refl; stored = refl };
     goes = going;
-    fits = λ full. full.0 none;
     flushed = record {
       base = λ b is. let on = off_base x.stopped b going is in flushed_base (disk x.vol) x.store x.waiting x.state (backed on.0) none b on.1;
       waiting = same;
@@ -71,18 +69,18 @@ module _ {V : Type 0} (told : Type 0) (disk : V → Disk) (faults : V → ℕ) (
 
   -- where the volume stands, by its log
   volume_at : V → StoreState → VolumeAt
-  volume_at vol store = record { faults = faults vol; moment = (disk vol).moment; generation = unwrap_or store.log.head 0 }
+  volume_at vol store = record { faults = faults vol; refusals = refusals vol; moment = (disk vol).moment; generation = unwrap_or store.log.head 0 }
 
-  leaves : (n : Contents V) → n.vol ≡ x.vol → n.store ≡ x.store → LeavesVolume (seen_of told disk faults x) (seen_of told disk faults n)
+  leaves : (n : Contents V) → n.vol ≡ x.vol → n.store ≡ x.store → LeavesVolume (seen_of told disk faults refusals x) (seen_of told disk faults refusals n)
   leaves n same same_store = record {
-    volume = ap (λ (v : V). record { faults = faults v; moment = (disk v).moment; generation = unwrap_or n.store.log.head 0 }) same
-        ∙ ap (λ (s : StoreState). record { faults = faults x.vol; moment = (disk x.vol).moment; generation = unwrap_or s.log.head 0 }) same_store;
+    volume = ap (λ (v : V). record { faults = faults v; refusals = refusals v; moment = (disk v).moment; generation = unwrap_or n.store.log.head 0 }) same
+        ∙ ap (λ (s : StoreState). record { faults = faults x.vol; refusals = refusals x.vol; moment = (disk x.vol).moment; generation = unwrap_or s.log.head 0 }) same_store;
     images = λ t image is. subst (λ (v : V). left told disk v t image) same is;
   }
 
   -- memory ran out
   pub unbrought : (store : StoreState) (vol : V) (waiting : List Effect) → store ≡ x.store → vol ≡ x.vol → waiting ≡ x.waiting
-      → Unflushed (seen_of told disk faults x) (seen_of told disk faults (record { state = x.state; store = store; vol = vol; waiting = waiting; since = x.since; stored = x.stored; stopped = x.stopped }))
+      → Unflushed (seen_of told disk faults refusals x) (seen_of told disk faults refusals (record { state = x.state; store = store; vol = vol; waiting = waiting; since = x.since; stored = x.stored; stopped = x.stopped; fixed = x.fixed }))
   unbrought store vol waiting same_store same waits = record {
     going = going;
     rests = record {
@@ -93,12 +91,12 @@ module _ {V : Type 0} (told : Type 0) (disk : V → Disk) (faults : V → ℕ) (
       waiting = waits;
       outs = refl;
     };
-    volume = leaves (record { state = x.state; store = store; vol = vol; waiting = waiting; since = x.since; stored = x.stored; stopped = x.stopped }) same same_store;
+    volume = leaves (record { state = x.state; store = store; vol = vol; waiting = waiting; since = x.since; stored = x.stored; stopped = x.stopped; fixed = x.fixed }) same same_store;
   }
 
   -- the numbers of generations are used up
   pub wears : (store : StoreState) (vol : V) (waiting : List Effect) → store ≡ x.store → vol ≡ x.vol → waiting ≡ x.waiting → x.store.log.head ≡ Some (2 ^ 62 - 1)
-      → WearsFlush (seen_of told disk faults x) (seen_of told disk faults (record { state = x.state; store = store; vol = vol; waiting = waiting; since = x.since; stored = x.stored; stopped = x.stopped }))
+      → WearsFlush (seen_of told disk faults refusals x) (seen_of told disk faults refusals (record { state = x.state; store = store; vol = vol; waiting = waiting; since = x.since; stored = x.stored; stopped = x.stopped; fixed = x.fixed }))
   wears store vol waiting same_store same waits last = record {
     unflushed = unbrought store vol waiting same_store same waits;
     last = ap (λ (s : StoreState). unwrap_or s.log.head 0) same_store ∙ ap (λ (o : Option ℕ). unwrap_or o 0) last;
@@ -112,9 +110,10 @@ module _ {V : Type 0} (told : Type 0) (disk : V → Disk) (faults : V → ℕ) (
       (subst (λ (l : List Effect). IsSoundPlace told (disk x.vol) x.store l x.stopped x.state) (sym waits) h))
 
   -- no time passed for the volume
-  pub stands_still : (waiting : List Effect) → Elapses holds (seen_of told disk faults x) (seen_of told disk faults (record x { waiting = waiting }))
+  pub stands_still : (waiting : List Effect) → Elapses holds (seen_of told disk faults refusals x) (seen_of told disk faults refusals (record x { waiting = waiting }))
   stands_still waiting = record {
     faults = le_refl (faults x.vol);
+    refusals = le_refl (refusals x.vol);
     moments = le_refl (disk x.vol).moment;
     generations = le_refl (unwrap_or x.store.log.head 0);
     goes_on = λ t image le is. inl is;
@@ -143,9 +142,6 @@ module _ {V : Type 0} (told : Type 0) (disk : V → Disk) (faults : V → ℕ) (
 
     pub records_of : IsTrue (list_all is_record effects)
     records_of = ap (list_all is_record) are ∙ h.records
-
-    fits_in : ¬ IsTooLong x.store effects → ¬ IsFull x.store x.waiting
-    fits_in short full = short (subst (IsTooLong x.store) (sym are) full.1)
 
     -- of what stands the volume holds what outlives a crash
     holds_next : (image : Image) → Holds image (durable_of x.state) → holds image (lasting x.state)
@@ -177,10 +173,11 @@ module _ {V : Type 0} (told : Type 0) (disk : V → Disk) (faults : V → ℕ) (
       stopped_sound store waiting count same = subst (λ (l : List Effect). IsSoundPlace told (disk vol) store l (Some count) x.state) (sym same)
           (record { sound = h.sound; bounded = h.bounded; writable = h.writable; restorable = h.restorable; records = h.records; on_disk = both })
 
-      pub time_goes_on : (n : Contents V) → n.vol ≡ vol → n.state ≡ x.state → unwrap_or x.store.log.head 0 ≤ unwrap_or n.store.log.head 0 → faults x.vol ≤ faults vol
-          → Elapses holds (seen_of told disk faults x) (seen_of told disk faults n)
-      time_goes_on n volume state generations rises = record {
+      pub time_goes_on : (n : Contents V) → n.vol ≡ vol → n.state ≡ x.state → unwrap_or x.store.log.head 0 ≤ unwrap_or n.store.log.head 0 → faults x.vol ≤ faults vol → refusals x.vol ≤ refusals vol
+          → Elapses holds (seen_of told disk faults refusals x) (seen_of told disk faults refusals n)
+      time_goes_on n volume state generations rises refused = record {
         faults = subst (λ (v : V). faults x.vol ≤ faults v) (sym volume) rises;
+        refusals = subst (λ (v : V). refusals x.vol ≤ refusals v) (sym volume) refused;
         moments = subst (λ (v : V). (disk x.vol).moment ≤ (disk v).moment) (sym volume) later;
         generations = generations;
         goes_on = λ t image le is.
@@ -202,32 +199,14 @@ module _ {V : Type 0} (told : Type 0) (disk : V → Disk) (faults : V → ℕ) (
           go t (inl before) = inl (subst (base told disk x.stopped x.vol) (only_held on.image (backed t).base b before on.held) (on_base t))
           go t (inr next) = inr (only_held on.image b (lasting x.state) on.held next)
 
-      pub fails : (store : StoreState) (waiting : List Effect) (count : ℕ) → count ≡ faults vol → Rose (faults x.vol) (faults vol) → ¬ IsTooLong x.store effects
-          → FailsFlush (seen_of told disk faults x) (seen_of told disk faults (record { state = x.state; store = store; vol = vol; waiting = waiting; since = x.since; stored = x.stored; stopped = Some count }))
-      fails store waiting count is rose short = record {
+      pub fails : (store : StoreState) (waiting : List Effect) (count : ℕ) → count ≡ faults vol → Rose (faults x.vol) (faults vol)
+          → FailsFlush (seen_of told disk faults refusals x) (seen_of told disk faults refusals (record { state = x.state; store = store; vol = vol; waiting = waiting; since = x.since; stored = x.stored; stopped = Some count; fixed = x.fixed }))
+      fails store waiting count is rose = record {
         keeps = record { going = going; state = refl; stored = refl };
         stops = ap (λ (n : ℕ). Some n) is;
         cause = rose;
-        fits = fits_in short;
         base = may_keep;
       }
-
-    -- the log is too full for it
-    pub fills : (store : StoreState) (vol : V) (waiting : List Effect) (count : ℕ) → count ≡ faults vol → store ≡ x.store → vol ≡ x.vol → x.waiting ≢ [] → IsTooLong x.store effects
-        → FillsFlush (seen_of told disk faults x) (seen_of told disk faults (record { state = x.state; store = store; vol = vol; waiting = waiting; since = x.since; stored = x.stored; stopped = Some count }))
-    fills store vol waiting count is same_store same some long = record {
-      keeps = record { going = going; state = refl; stored = refl };
-      stops = ap (λ (n : ℕ). Some n) is;
-      cause = (some, subst (IsTooLong x.store) are long);
-      base = λ b on. keeps b (subst (λ (v : V). IsLeftNow told disk v b) same on);
-      volume = leaves (record { state = x.state; store = store; vol = vol; waiting = waiting; since = x.since; stored = x.stored; stopped = Some count }) same same_store;
-    }
-      where
-        keeps : (b : State) → IsLeftNow told disk x.vol b → base told disk x.stopped x.vol b
-        keeps b on =
-            let t = on.is_left.0 in
-            let before = left_base (disk x.vol) x.store x.waiting x.state (backed t) on.image ((clocked x.vol).only_now on.image on.is_left.1) in
-            subst (base told disk x.stopped x.vol) (only_held on.image (backed t).base b before on.held) (on_base t)
 
     -- it was committed
     module _ (vol : V) (store : StoreState) (committed : told → IsCommitted x.store store effects (disk x.vol) (disk vol)) where
@@ -241,12 +220,11 @@ module _ {V : Type 0} (told : Type 0) (disk : V → Disk) (faults : V → ℕ) (
             waits = ap (λ (d : Durable). Some d) (held x.state);
           }
 
-      pub brings : (waiting : List Effect) → waiting ≡ [] → ¬ IsTooLong x.store effects
-          → Flushed (seen_of told disk faults x) (seen_of told disk faults (record { state = x.state; store = store; vol = vol; waiting = waiting; since = x.since; stored = x.stored; stopped = x.stopped }))
-      brings waiting none short = record {
+      pub brings : (waiting : List Effect) → waiting ≡ []
+          → Flushed (seen_of told disk faults refusals x) (seen_of told disk faults refusals (record { state = x.state; store = store; vol = vol; waiting = waiting; since = x.since; stored = x.stored; stopped = x.stopped; fixed = x.fixed }))
+      brings waiting none = record {
         keeps = record { going = going; state = refl; stored = refl };
         goes = going;
-        fits = fits_in short;
         flushed = record { base = λ b is. flushes b (subst (λ (p : Option ℕ). base told disk p vol b) going is); waiting = none };
       }
         where

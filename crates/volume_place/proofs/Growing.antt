@@ -1,7 +1,7 @@
 -- A place stays sound as events and deliveries are made and their records wait.
 use Rattle.std.proofs.Common.{◌≡◌, ◌<◌, ◌^◌, ℕ, Bool, true, List, [], ◌∷◌, Option, Some, None, Result, Ok, Err, refl, sym, ap, subst, ◌∙◌}
 use Rattle.std.specs.Prelude.{IsTrue, IfErr, IfOk, ◌&&◌, nat_le}
-use Rattle.std.proofs.lemmas.Bool.{and_parts, true≢false}
+use Rattle.std.proofs.lemmas.Bool.{and_parts}
 use Rattle.std.proofs.lemmas.List.{append-nil}
 use Rattle.std.proofs.lemmas.Option.{none-some}
 use Rattle.js_base.specs.Bytes.{Bytes}
@@ -16,6 +16,8 @@ use Rattle.js_model.specs.Deliver.{IsDelivered}
 use Rattle.js_model.specs.Events.{answered, kept_incarnation}
 use Rattle.js_model.specs.Proper.{is_proper}
 use Rattle.js_model.specs.Runs.{IsStep, IsDeliverStep}
+use Rattle.model_laws.specs.Bounds.{IsBounded}
+use Rattle.model_laws.specs.Sound.{IsSound}
 use Rattle.model_laws.proofs.Bounded.{law_bounded}
 use Rattle.model_laws.proofs.Writable.{law_writable}
 use Rattle.model_laws.proofs.Sounding.{law_sound}
@@ -51,11 +53,17 @@ step_of old new e now room kept proper moment is = record {
   event = record { kept = kept; room = room; answers = ap (λ (s : State). record (answered old e now room) { state = s }) (sym is) };
   proper = proper;
   moment = moment;
-  free = λ few. absurd (true≢false (sym few));
 }
 
+-- so the records of the event lead to what it makes
+pub event_leads : (old new : State) (e : Event) (now : ℕ) (room : Bool) → e.incarnation ≡ kept_incarnation old → IsTrue (is_proper e) → now < 2 ^ 62 → new ≡ (answered old e now room).state
+    → IsSound old → IsBounded old → Leads old (event_effects old e.what now room) new
+unfolding step_of
+event_leads old new e now room kept proper moment is sound bounded =
+    law_events many old new e now (answered old e now room).reply (answered old e now room).outs (step_of old new e now room kept proper moment is) sound bounded
+
 -- a tick is proper where an event of its incarnation is
-tick_proper : (e : Event) → IsTrue (is_proper e) → IsTrue (is_proper (record e { what = Tick }))
+pub tick_proper : (e : Event) → IsTrue (is_proper e) → IsTrue (is_proper (record e { what = Tick }))
 tick_proper e proper = ap (λ (b : Bool). (b && true) && true) (and_parts _ _ (and_parts _ _ proper).0).0
 
 -- Of a place that goes on.

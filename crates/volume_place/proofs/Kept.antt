@@ -1,5 +1,5 @@
 -- What holds of a place on a volume between two calls, as it is seen.
-use Rattle.std.proofs.Common.{◌≡◌, ◌⊎◌, inl, inr, true, ℕ, Option, Some, None, refl, sym, ap, subst, ◌∙◌}
+use Rattle.std.proofs.Common.{◌≡◌, ◌⊎◌, inl, inr, ℕ, Option, Some, None, sym, ap, subst, ◌∙◌}
 use Rattle.std.proofs.lemmas.Option.{none-some}
 use Rattle.js_model.specs.declared.stream.State.{State}
 use Rattle.js_model.specs.Lasting.{lasting}
@@ -10,18 +10,15 @@ use Rattle.vol_disk.specs.Clock.{IsClocked}
 use Rattle.vol_disk.specs.Disk.{Disk}
 use Rattle.stream_store.specs.Waiting.{Waits as WaitsOn}
 use Rattle.place_engine.specs.Stepping.{Image, IsKept, Waits}
-use Rattle.js_model.specs.declared.event.What.{What}
-use Rattle.js_model.specs.Runs.{is_few}
 use Rattle.volume_place.specs.Contents.{Contents}
-use Rattle.volume_place.specs.Rooms.{MayStore, room_in}
 use Rattle.volume_place.specs.Images.{base, clock, holds, left, reads}
 use Rattle.volume_place.specs.Laws.{only_held}
 use Rattle.volume_place.specs.Seeing.{seen_of}
 use Rattle.volume_place.specs.Sound.{IsOnDisk, IsSoundPlace}
 use Rattle.volume_place.proofs.Bases.{leads_lasting, leads_on, left_base, read_base}
-use Rattle.volume_place.proofs.Storing.{room_by_count}
+use Rattle.volume_place.proofs.Asked.{quiet_room}
 
-module _ {V : Type 0} (told : Type 0) (disk : V → Disk) (faults : V → ℕ) (place : Contents V) where
+module _ {V : Type 0} (told : Type 0) (disk : V → Disk) (faults refusals : V → ℕ) (place : Contents V) where
   abbrev OnDisk : Option ℕ → Type 0
   OnDisk o = told → IsOnDisk o (disk place.vol) place.store place.waiting place.state
 
@@ -62,18 +59,11 @@ module _ {V : Type 0} (told : Type 0) (disk : V → Disk) (faults : V → ℕ) (
         let one = on_disk is.0 image (clocked.only_now image is.1) in
         (one.0, one.1, record { image = image; is_left = is; held = one.1 })
 
-    -- a block is free as long as few messages count
-    free_of : (o : Option ℕ) → MayStore o place.store.blocks place.waiting place.stored → is_few place.stored ≡ true → (what : What) → room_in o place.store.blocks place.waiting what ≡ true
-    free_of None blocks few what = room_by_count place.store.blocks place.waiting place.stored what blocks few
-    free_of (Some count) blocks few what = refl
-
-    pub kept_of : IsSoundPlace told (disk place.vol) place.store place.waiting place.stopped place.state → MayStore place.stopped place.store.blocks place.waiting place.stored
-        → IsKept holds (seen_of told disk faults place)
-    kept_of sound blocks = record {
+    pub kept_of : IsSoundPlace told (disk place.vol) place.store place.waiting place.stopped place.state → IsKept holds (seen_of told disk faults refusals place)
+    kept_of sound = record {
       waits = waits place.stopped sound.on_disk;
       one = only_one place.stopped;
       now = now place.stopped sound.on_disk;
-      free = free_of place.stopped blocks;
-      fits_none = λ full. full.0 refl;
+      free = λ what quiet. quiet_room place.stopped place.fixed place.store place.state place.waiting what quiet;
       earlier = λ t u image le is. (is.0, clocked.earlier t u image le is.1);
     }

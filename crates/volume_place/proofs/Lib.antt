@@ -1,3 +1,4 @@
+mod Asked
 mod Bases
 mod Kept
 mod Moved
@@ -10,6 +11,7 @@ mod Formed
 mod Committed
 mod Left
 mod Brought
+mod Prepared
 mod Concluded
 mod Steps
 mod Deliveries
@@ -17,6 +19,10 @@ mod Opened
 mod Empty
 mod Plain
 mod Storing
+mod Spotting
+mod Reserving
+mod Raising
+mod Keeping
 mod Answering
 mod Dated
 mod Urgent

@@ -180,16 +180,13 @@ other_lengths (Now moment) other = refl
 
 -- ---- whether they are little
 
-pub too_many : (records : List Effect) → 1024 ≤ length records → is_small records ≡ false
-too_many records many = ap (λ (b : Bool). b && nat_lt (length (flat_map spelled records)) (2 ^ 20)) (le-ltb (length records) 1024 many)
-
 few_are : (records : List Effect) (b : Bool) → length records < 1024 → nat_lt (length (flat_map spelled records)) (2 ^ 20) ≡ b → is_small records ≡ b
 few_are records b few short =
     ap (λ (c : Bool). c && nat_lt (length (flat_map spelled records)) (2 ^ 20)) (lt-ltb (length records) 1024 few)
     ∙ short
 
-pub too_long : (records : List Effect) (lengths : Lengths) → length records < 1024 → HaveLengths records lengths → 2 ^ 20 ≤ lengths.waiting → is_small records ≡ false
-too_long records lengths few are long = few_are records false few (ap (λ (n : ℕ). nat_lt n (2 ^ 20)) (sym are.waiting) ∙ le-ltb lengths.waiting (2 ^ 20) long)
+pub too_many : (records : List Effect) → 1024 ≤ length records → false ≡ is_small records
+too_many records many = sym (ap (λ (b : Bool). b && nat_lt (length (flat_map spelled records)) (2 ^ 20)) (le-ltb (length records) 1024 many))
 
-pub little : (records : List Effect) (lengths : Lengths) → length records < 1024 → HaveLengths records lengths → lengths.waiting < 2 ^ 20 → is_small records ≡ true
-little records lengths few are short = few_are records true few (ap (λ (n : ℕ). nat_lt n (2 ^ 20)) (sym are.waiting) ∙ lt-ltb lengths.waiting (2 ^ 20) short)
+pub small_as : (records : List Effect) (lengths : Lengths) → length records < 1024 → HaveLengths records lengths → nat_lt lengths.waiting (2 ^ 20) ≡ is_small records
+small_as records lengths few are = sym (few_are records (nat_lt lengths.waiting (2 ^ 20)) few (ap (λ (n : ℕ). nat_lt n (2 ^ 20)) (sym are.waiting)))

@@ -22,16 +22,17 @@ use Rattle.js_model.specs.declared.stream.Message.{Message}
 use Rattle.js_model.specs.declared.stream.State.{State}
 use Rattle.js_model.specs.declared.stream.State.TheVariants.{Vacant, Live}
 use Rattle.js_model.specs.declared.stream.Stream.{Stream}
+use Rattle.js_model.specs.declared.stream_config.StreamConfig.{StreamConfig}
 use Rattle.js_model.specs.Advance.{advance, aged, is_spent, young}
 use Rattle.js_model.specs.Consumers.{making_checks}
-use Rattle.js_model.specs.Events.{message_at, published, purge_list, stream_answer, with_message, without_messages}
+use Rattle.js_model.specs.Events.{message_at, or_no_room, published, purge_list, stream_answer, with_message, without_messages}
 use Rattle.js_model.specs.Refusals.{first_refusal}
 use Rattle.js_model.specs.Retention.{kept}
 use Rattle.js_model.specs.Runs.{messages_of}
 use Rattle.js_model.specs.Streams.{by_name, seqs}
 use Rattle.js_model.specs.Trim.{trim, trim_count, trim_subjects}
 use Rattle.js_model.specs.Verdict.{verdict}
-use Rattle.effects.specs.Effects.{ack_effects, acknowledged_effects, changes_due, delete_effects, delivery_effects, drop_effects, due_effects, ended_effects, ends_some, event_effects, is_skipped, live_effects, made_effects, make_effects, own_effects, publish_effects, published_skipped, sent_effects, settle_effects, skipped, vacant_effects}
+use Rattle.effects.specs.Effects.{ack_effects, acknowledged_effects, change_effects, changes_due, delete_effects, delivery_effects, drop_effects, due_effects, ended_effects, ends_some, event_effects, is_skipped, live_effects, made_effects, make_effects, own_effects, publish_effects, published_skipped, sent_effects, settle_effects, skipped, stream_effects, vacant_effects}
 use Rattle.js_model.specs.Acknowledge.{is_no_delivery}
 use Rattle.effects.specs.Ranges.{Range, ranges}
 use Rattle.effects.specs.TimeEffects.{effects_at, given_up_effects, has_spent_ids, now_effects, removals, remove_of, time_effects}
@@ -142,11 +143,15 @@ plain_made : (s : Stream) (name : Bytes) (config : ConsumerConfig) (e : Option A
 plain_made s name config None = refl
 plain_made s name config (Some e) = refl
 
-plain_make : (s : Stream) (name : Bytes) (config : ConsumerConfig) (update : Bool) (c : Option Consumer) → Plain (make_effects s name config update c)
-plain_make s name config true None = refl
-plain_make s name config false None = plain_made s name config (first_refusal (making_checks s name config))
-plain_make s name config true (Some c) = refl
-plain_make s name config false (Some c) = refl
+plain_change : (s : Stream) (config : StreamConfig) (room : Bool) → Plain (change_effects s config room)
+plain_change s config true = only_if _ (effects.ChangeStream config) refl
+plain_change s config false = refl
+
+plain_make : (s : Stream) (name : Bytes) (config : ConsumerConfig) (update room : Bool) (c : Option Consumer) → Plain (make_effects s name config update room c)
+plain_make s name config true room None = refl
+plain_make s name config false room None = plain_made s name config (or_no_room room (first_refusal (making_checks s name config)))
+plain_make s name config true room (Some c) = refl
+plain_make s name config false room (Some c) = refl
 
 plain_drop : (c : Option Consumer) → Plain (drop_effects c)
 plain_drop None = refl
@@ -177,27 +182,31 @@ plain_ack s n kind (Some c) = go (is_no_delivery c n)
     go true = refl
     go false = plain_acknowledged s.moment n kind c
 
-plain_vacant : (i : ℕ) (what : What) (now : ℕ) → Plain (vacant_effects i what now)
-plain_vacant i (Make reply config) now = go (i + 1 == 2 ^ 62)
+plain_stream : (i : ℕ) (config : StreamConfig) (now : ℕ) (room : Bool) → Plain (stream_effects i config now room)
+plain_stream i config now true = refl
+plain_stream i config now false = refl
+
+plain_vacant : (i : ℕ) (what : What) (now : ℕ) (room : Bool) → Plain (vacant_effects i what now room)
+plain_vacant i (Make reply config) now room = go (i + 1 == 2 ^ 62)
   where
-    go : (b : Bool) → Plain (cond b [] (effects.MakeStream (i + 1) now config ∷ []))
+    go : (b : Bool) → Plain (cond b [] (stream_effects i config now room))
     go true = refl
-    go false = refl
-plain_vacant i (Change reply config) now = refl
-plain_vacant i (DropStream reply) now = refl
-plain_vacant i (PublishIt p) now = refl
-plain_vacant i (Purge reply pattern below keep) now = refl
-plain_vacant i (Delete reply n) now = refl
-plain_vacant i (MakeConsumer reply name config update) now = refl
-plain_vacant i (DropConsumer reply name) now = refl
-plain_vacant i (AckIt reply ack) now = refl
-plain_vacant i (PullIt reply name ask) now = refl
-plain_vacant i Tick now = refl
-plain_vacant i (AskStream reply) now = refl
-plain_vacant i (MessageGet reply by) now = refl
-plain_vacant i (AskConsumer reply name) now = refl
-plain_vacant i (ConsumerNames reply offset) now = refl
-plain_vacant i (ConsumerList reply offset) now = refl
+    go false = plain_stream i config now room
+plain_vacant i (Change reply config) now room = refl
+plain_vacant i (DropStream reply) now room = refl
+plain_vacant i (PublishIt p) now room = refl
+plain_vacant i (Purge reply pattern below keep) now room = refl
+plain_vacant i (Delete reply n) now room = refl
+plain_vacant i (MakeConsumer reply name config update) now room = refl
+plain_vacant i (DropConsumer reply name) now room = refl
+plain_vacant i (AckIt reply ack) now room = refl
+plain_vacant i (PullIt reply name ask) now room = refl
+plain_vacant i Tick now room = refl
+plain_vacant i (AskStream reply) now room = refl
+plain_vacant i (MessageGet reply by) now room = refl
+plain_vacant i (AskConsumer reply name) now room = refl
+plain_vacant i (ConsumerNames reply offset) now room = refl
+plain_vacant i (ConsumerList reply offset) now room = refl
 
 -- ---- a publish that is taken and kept
 
@@ -240,12 +249,12 @@ module _ (a : Stream) (p : Publish) where
 
 plain_own : (a : Stream) (what : What) (room : Bool) → ((p : Publish) × (what ≡ PublishIt p)) ⊎ Plain (own_effects a what room)
 plain_own a (Make reply config) room = inr refl
-plain_own a (Change reply config) room = inr (only_if _ (effects.ChangeStream config) refl)
+plain_own a (Change reply config) room = inr (plain_change a config room)
 plain_own a (DropStream reply) room = inr refl
 plain_own a (PublishIt p) room = inl (p, refl)
 plain_own a (Purge reply pattern below keep) room = inr (plain_removals a.messages (without_messages a (purge_list a pattern below keep)).messages)
 plain_own a (Delete reply n) room = inr (plain_delete a (message_at a n))
-plain_own a (MakeConsumer reply name config update) room = inr (plain_make a name config update (by_name a.consumers name))
+plain_own a (MakeConsumer reply name config update) room = inr (plain_make a name config update room (by_name a.consumers name))
 plain_own a (DropConsumer reply name) room = inr (plain_drop (by_name a.consumers name))
 plain_own a (AckIt reply ack) room = inr (plain_ack a ack.seq ack.kind (by_name a.consumers ack.consumer))
 plain_own a (PullIt reply name ask) room = inr refl
@@ -258,7 +267,7 @@ plain_own a (ConsumerList reply offset) room = inr refl
 
 -- an event stores no message, or it is a publish that is taken and kept
 pub plain_or_stores : (old : State) (what : What) (now : ℕ) (room : Bool) → Plain (event_effects old what now room) ⊎ Stores old what now room
-plain_or_stores (Vacant i) what now room = inl (plain_vacant i what now)
+plain_or_stores (Vacant i) what now room = inl (plain_vacant i what now room)
 plain_or_stores (Live s) what now room = go (plain_own a what room)
   where
     a : Stream

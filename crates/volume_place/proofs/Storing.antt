@@ -1,5 +1,5 @@
 -- What waits keeps its places in blocks as events and deliveries are made, and a message that is stored counts.
-use Rattle.std.proofs.Common.{◌≡◌, ◌≢◌, ◌≤◌, ◌<◌, ◌⊎◌, inl, inr, ℕ, ◌+◌, ◌-◌, ◌^◌, ◌==◌, ◌||◌, min, Bool, true, false, cond, not, List, [], ◌∷◌, ◌++◌, length, map, Option, None, Some, Result, Ok, Err, refl, sym, ap, subst, ◌∙◌, arith, append_assoc}
+use Rattle.std.proofs.Common.{◌≡◌, ◌≢◌, ◌≤◌, ◌<◌, ◌⊎◌, inl, inr, ℕ, ◌+◌, ◌-◌, ◌^◌, ◌==◌, ◌&&◌, ◌||◌, min, Bool, true, false, cond, not, List, [], ◌∷◌, ◌++◌, length, map, Option, None, Some, Result, Ok, Err, refl, sym, ap, subst, ◌∙◌, arith, append_assoc}
 use Rattle.std.specs.Prelude.{filter, is_some}
 use Rattle.std.specs.Option.{option_to_list}
 use Rattle.std.proofs.lemmas.Bool.{and_parts, eqb-true, lt-ltb, ltb-true, true≢false}
@@ -35,9 +35,9 @@ use Rattle.op_records.proofs.BlockSizes.{spelled_len}
 use Rattle.block_table.specs.Blocks.{Blocks}
 use Rattle.block_writing.specs.Planning.{Planned, begun, message_by, planned, then_planned}
 use Rattle.stream_store.specs.Laws.{keeps_placing}
-use Rattle.stream_store.specs.Placing.{can_place, has_room, used_behind}
+use Rattle.stream_store.specs.Placing.{can_place, has_room, spot_behind, used_behind}
 use Rattle.stream_store.proofs.Counting.{law_counting}
-use Rattle.stream_store.proofs.Rooms.{law_placing}
+use Rattle.stream_store.proofs.Placings.{law_placing}
 use Rattle.place_engine.specs.Following.{followed, left_before}
 use Rattle.memory_place.specs.Recording.{TellsEventIn, TellsLeft, TellsSent}
 use Rattle.place_engine.specs.declared.faults.Left.{Left}
@@ -45,7 +45,12 @@ use Rattle.place_engine.specs.declared.faults.Left.TheVariants.{Nothing, Ticked,
 use Rattle.place_records.specs.declared.made.Made.{Made}
 use Rattle.place_records.specs.declared.made.TimeRecords.{TimeRecords}
 use Rattle.place_records.specs.Records.{effects_in, gives_up, own_in, seen_in, time_in}
-use Rattle.volume_place.specs.Rooms.{HasBlocks, IsCounted, MayStore, block_length, room_for, room_in, stored_by}
+use Rattle.snapshot_bound.specs.Asking.{event_growth}
+use Rattle.stream_store.specs.Rooms.{AreReserved, is_reserved}
+use Rattle.stream_store.specs.StoreState.{StoreState}
+use Rattle.volume_place.specs.Growing.{bound_after}
+use Rattle.volume_place.specs.Rooms.{HasBlocks, IsCounted, MayStore, block_length, is_reached, is_reached_by, room_for, stored_by}
+use Rattle.volume_place.proofs.Asked.{has_spot, needed}
 use Rattle.volume_place.proofs.Following.{Leaves, leaves}
 use Rattle.volume_place.proofs.Plain.{Plain, Still, Stores, plain_both, plain_delivery, plain_of, plain_or_stores, plain_settle, plain_tick, plain_time, put_of, still_ranges, still_time, storing}
 
@@ -83,11 +88,11 @@ pub record Grows (b : Blocks) (waiting effects : List Effect) : Type 0 where
   pub placed : can_place b (waiting ++ effects) ≡ true
   pub used : used_behind b (waiting ++ effects) ≤ used_behind b waiting + stored_by effects
 
-not_put : (x : Bool) → not x ≡ true → x ≡ false
+pub not_put : (x : Bool) → not x ≡ true → x ≡ false
 not_put true so = absurd (true≢false (sym so))
 not_put false so = refl
 
-one_behind : {X : Type 0} (xs : List X) (x : X) (ys : List X) → (xs ++ x ∷ []) ++ ys ≡ xs ++ x ∷ ys
+pub one_behind : {X : Type 0} (xs : List X) (x : X) (ys : List X) → (xs ++ x ∷ []) ++ ys ≡ xs ++ x ∷ ys
 one_behind xs x ys = append_assoc xs (x ∷ []) ys
 
 module _ (b : Blocks) where
@@ -121,7 +126,7 @@ module _ (b : Blocks) where
 
   module _ (tail more : List Effect) where
     -- a moment that gives way had no place
-    can_left : can_place b tail ≡ true → can_place b (left_before more tail) ≡ true
+    pub can_left : can_place b tail ≡ true → can_place b (left_before more tail) ≡ true
     can_left can = go (leaves more tail)
       where
         go : Leaves more tail → can_place b (left_before more tail) ≡ true
@@ -135,22 +140,22 @@ module _ (b : Blocks) where
         go (inl same) = ap (used_behind b) same
         go (inr ends) = sym (ap (used_behind b) ends.1 ∙ law_counting.change b (left_before more tail) (effects.Now ends.0) refl)
 
-    room_left : (len : ℕ) → has_room b (left_before more tail) len ≡ has_room b tail len
-    room_left len = go (leaves more tail)
+    pub spot_left : (len : ℕ) → spot_behind b (left_before more tail) len ≡ spot_behind b tail len
+    spot_left len = go (leaves more tail)
       where
-        go : Leaves more tail → has_room b (left_before more tail) len ≡ has_room b tail len
-        go (inl same) = ap (λ (l : List Effect). has_room b l len) same
-        go (inr ends) = sym (ap (λ (l : List Effect). has_room b l len) ends.1 ∙ law_placing.keeps b (left_before more tail) (effects.Now ends.0) len refl)
+        go : Leaves more tail → spot_behind b (left_before more tail) len ≡ spot_behind b tail len
+        go (inl same) = ap (λ (l : List Effect). spot_behind b l len) same
+        go (inr ends) = sym (ap (λ (l : List Effect). spot_behind b l len) ends.1 ∙ law_placing.keeps b (left_before more tail) (effects.Now ends.0) len refl)
 
   -- records that do not change where the next message goes
-  still_room : (es xs : List Effect) (len : ℕ) → Still xs → has_room b (es ++ xs) len ≡ has_room b es len
-  still_room es [] len still = ap (λ (l : List Effect). has_room b l len) (append-nil es)
-  still_room es (x ∷ xs) len still =
+  pub still_spot : (es xs : List Effect) (len : ℕ) → Still xs → spot_behind b (es ++ xs) len ≡ spot_behind b es len
+  still_spot es [] len still = ap (λ (l : List Effect). spot_behind b l len) (append-nil es)
+  still_spot es (x ∷ xs) len still =
       let parts = and_parts (keeps_placing x) _ still in
-      ap (λ (l : List Effect). has_room b l len) (sym (one_behind es x xs)) ∙ still_room (es ++ x ∷ []) xs len parts.1 ∙ law_placing.keeps b es x len parts.0
+      ap (λ (l : List Effect). spot_behind b l len) (sym (one_behind es x xs)) ∙ still_spot (es ++ x ∷ []) xs len parts.1 ∙ law_placing.keeps b es x len parts.0
 
   -- a message is as long whatever its numbers are
-  length_is : (a : Stream) (p : Publish) → block_length p ≡ length (spelled_message (message_by (a.last + 1) a.moment p.subject p.headers p.payload))
+  pub length_is : (a : Stream) (p : Publish) → block_length p ≡ length (spelled_message (message_by (a.last + 1) a.moment p.subject p.headers p.payload))
   length_is a p = spelled_len (message_by 0 0 p.subject p.headers p.payload) ∙ sym (spelled_len (message_by (a.last + 1) a.moment p.subject p.headers p.payload))
 
   -- a message for which there is room, between passing time and what leaves by it
@@ -159,7 +164,7 @@ module _ (b : Blocks) where
       let passed = time_effects s now in
       let leaving = settle_effects [] (Live (with_message a p)) in
       let first = plain_places es passed (plain_time s now) can in
-      let there = ap (has_room b (es ++ passed)) (sym (length_is a p)) ∙ still_room es passed (block_length p) (still_time s now) ∙ room in
+      let there = ap (has_room b (es ++ passed)) (sym (length_is a p)) ∙ ap is_some (still_spot es passed (block_length p) (still_time s now)) ∙ room in
       let put = law_placing.message b (es ++ passed) (a.last + 1) a.moment p.wants.id p.subject p.headers p.payload there in
       let more = law_counting.message b (es ++ passed) (a.last + 1) a.moment p.wants.id p.subject p.headers p.payload put in
       let last = plain_places ((es ++ passed) ++ put_of a p ∷ []) leaving (plain_settle [] (Live (with_message a p))) put in
@@ -177,14 +182,29 @@ taken_has_room a p room e =
     go true so = refl
     go false so = absurd (true≢false so)
 
-pub event_grows : (b : Blocks) (es : List Effect) (old : State) (what : What) (now : ℕ) (room : Bool) → room ≡ room_for b es what → can_place b es ≡ true → Grows b es (event_effects old what now room)
-event_grows b es old what now room is can = go (plain_or_stores old what now room)
+-- what is taken by a stream needs room
+taken_grows : (s : Stream) (p : Publish) → event_growth (Live s) (whats.Publish p) ≢ 0
+taken_grows s p none = omega (arith, none)
+
+-- so there is a block for a message that is taken
+pub has_block : (known : ℕ) (store : StoreState) (es : List Effect) (old : State) (what : What) (now : ℕ) (room : Bool) → room ≡ room_for known store old es what → (h : Stores old what now room)
+    → (room ≡ true) × (AreReserved store.rooms (bound_after known old what) × (is_reached_by store es (whats.Publish h.p) ≡ true))
+has_block known store es old what now room is h =
+    let taken : room ≡ true = taken_has_room (advance h.s now) h.p room h.taken in
+    let some : event_growth old what ≢ 0 =
+    subst (λ (x : State). event_growth x what ≢ 0) (sym h.old_is) (subst (λ (w : What). event_growth (Live h.s) w ≢ 0) (sym h.what_is) (taken_grows h.s h.p)) in
+    let has = needed known store old es what some (sym is ∙ taken) in
+    (taken, (has.0, subst (λ (w : What). is_reached_by store es w ≡ true) h.what_is has.1))
+
+pub event_grows : (known : ℕ) (store : StoreState) (es : List Effect) (old : State) (what : What) (now : ℕ) (room : Bool) → room ≡ room_for known store old es what → can_place store.blocks es ≡ true
+    → Grows store.blocks es (event_effects old what now room)
+event_grows known store es old what now room is can = go (plain_or_stores old what now room)
   where
-    go : Plain (event_effects old what now room) ⊎ Stores old what now room → Grows b es (event_effects old what now room)
-    go (inl plain) = plain_grows b es (event_effects old what now room) plain can
+    go : Plain (event_effects old what now room) ⊎ Stores old what now room → Grows store.blocks es (event_effects old what now room)
+    go (inl plain) = plain_grows store.blocks es (event_effects old what now room) plain can
     go (inr h) =
-        let there : has_room b es (block_length h.p) ≡ true = sym (ap (room_for b es) h.what_is) ∙ sym is ∙ taken_has_room (advance h.s now) h.p room h.taken in
-        subst (Grows b es) (sym h.records) (stored_grows b es h.s (advance h.s now) h.p now can there)
+        let there : has_room store.blocks es (block_length h.p) ≡ true = has_spot store es h.p (has_block known store es old what now room is h).1.1 in
+        subst (Grows store.blocks es) (sym h.records) (stored_grows store.blocks es h.s (advance h.s now) h.p now can there)
 
 -- ---- counts
 
@@ -221,77 +241,18 @@ module _ (b : Blocks) (waiting : List Effect) (stored : ℕ) where
   pub may_store : (stopped : Option ℕ) → stopped ≡ None → HasBlocks b waiting stored → MayStore stopped b waiting stored
   may_store stopped goes h = subst (λ (p : Option ℕ). MayStore p b waiting stored) (sym goes) h
 
-  pub room_going : (stopped : Option ℕ) (what : What) → stopped ≡ None → room_in stopped b waiting what ≡ room_for b waiting what
-  room_going stopped what goes = ap (λ (p : Option ℕ). room_in p b waiting what) goes
-
-  -- few messages count
-  pub room_by_count : (what : What) → HasBlocks b waiting stored → is_few stored ≡ true → room_for b waiting what ≡ true
-  room_by_count (whats.Publish p) h few =
-      let below : stored < 65533 = ltb-true stored 65533 few in
-      let used = h.few few in
-      law_counting.room b waiting h.placed (omega (arith, below, used)) (block_length p)
-  room_by_count (whats.Make reply config) h few = refl
-  room_by_count (whats.Change reply config) h few = refl
-  room_by_count (whats.Drop reply) h few = refl
-  room_by_count (whats.Purge reply pattern below keep) h few = refl
-  room_by_count (whats.Delete reply n) h few = refl
-  room_by_count (whats.MakeConsumer reply name config update) h few = refl
-  room_by_count (whats.DropConsumer reply name) h few = refl
-  room_by_count (whats.Ack reply ack) h few = refl
-  room_by_count (whats.Pull reply name ask) h few = refl
-  room_by_count whats.Tick h few = refl
-  room_by_count (whats.StreamInfo reply) h few = refl
-  room_by_count (whats.MessageGet reply by) h few = refl
-  room_by_count (whats.ConsumerInfo reply name) h few = refl
-  room_by_count (whats.ConsumerNames reply offset) h few = refl
-  room_by_count (whats.ConsumerList reply offset) h few = refl
-
-  -- only a publish may find none
-  pub only_publishes : (what : What) (room : Bool) → room ≡ room_for b waiting what → (room ≡ true) ⊎ ((p : Publish) × (what ≡ whats.Publish p))
-  only_publishes (whats.Publish p) room is = inr (p, refl)
-  only_publishes (whats.Make reply config) room is = inl is
-  only_publishes (whats.Change reply config) room is = inl is
-  only_publishes (whats.Drop reply) room is = inl is
-  only_publishes (whats.Purge reply pattern below keep) room is = inl is
-  only_publishes (whats.Delete reply n) room is = inl is
-  only_publishes (whats.MakeConsumer reply name config update) room is = inl is
-  only_publishes (whats.DropConsumer reply name) room is = inl is
-  only_publishes (whats.Ack reply ack) room is = inl is
-  only_publishes (whats.Pull reply name ask) room is = inl is
-  only_publishes whats.Tick room is = inl is
-  only_publishes (whats.StreamInfo reply) room is = inl is
-  only_publishes (whats.MessageGet reply by) room is = inl is
-  only_publishes (whats.ConsumerInfo reply name) room is = inl is
-  only_publishes (whats.ConsumerNames reply offset) room is = inl is
-  only_publishes (whats.ConsumerList reply offset) room is = inl is
+  -- no block is free, so that many messages count
+  pub many_by_spot : (p : Publish) → HasBlocks b waiting stored → has_room b waiting (block_length p) ≡ false → is_few stored ≡ false
+  many_by_spot p h none = go (is_few stored) refl
+    where
+      go : (x : Bool) → is_few stored ≡ x → x ≡ false
+      go true few =
+          let below : stored < 65533 = ltb-true stored 65533 few in
+          let used = h.few few in
+          absurd (true≢false (sym (law_counting.room b waiting h.placed (omega (arith, below, used)) (block_length p)) ∙ none))
+      go false few = refl
 
   -- ---- what was made
-
-  room_for_left : (more : List Effect) (what : What) → room_for b (left_before more waiting) what ≡ room_for b waiting what
-  room_for_left more (whats.Publish p) = room_left b waiting more (block_length p)
-  room_for_left more (whats.Make reply config) = refl
-  room_for_left more (whats.Change reply config) = refl
-  room_for_left more (whats.Drop reply) = refl
-  room_for_left more (whats.Purge reply pattern below keep) = refl
-  room_for_left more (whats.Delete reply n) = refl
-  room_for_left more (whats.MakeConsumer reply name config update) = refl
-  room_for_left more (whats.DropConsumer reply name) = refl
-  room_for_left more (whats.Ack reply ack) = refl
-  room_for_left more (whats.Pull reply name ask) = refl
-  room_for_left more whats.Tick = refl
-  room_for_left more (whats.StreamInfo reply) = refl
-  room_for_left more (whats.MessageGet reply by) = refl
-  room_for_left more (whats.ConsumerInfo reply name) = refl
-  room_for_left more (whats.ConsumerNames reply offset) = refl
-  room_for_left more (whats.ConsumerList reply offset) = refl
-
-  pub told_grows : (result : Result Reply Left) (old : State) (what : What) (now : ℕ) (room : Bool) (es : List Effect) → room ≡ room_for b waiting what → HasBlocks b waiting stored
-      → TellsEventIn room result old what now es → Grows b (left_before es waiting) es
-  told_grows (Ok reply) old what now room es is h tells =
-      let made = event_effects old what now room in
-      subst (λ (l : List Effect). Grows b (left_before l waiting) l) (sym tells)
-      (event_grows b (left_before made waiting) old what now room (is ∙ sym (room_for_left made what)) (can_left b waiting made h.placed))
-  told_grows (Err left) old what now room es is h tells = plain_grows b (left_before es waiting) es (left_plain left old now es tells) (can_left b waiting es h.placed)
 
   pub sent_plain : (result : Result (Option Delivery) Left) (old : State) (now : ℕ) (new : State) (es : List Effect) → TellsSent result old now new es → Plain es
   sent_plain (Ok (Some d)) old now new es tells = subst Plain (sym tells) (plain_delivery old now d new)
@@ -302,6 +263,40 @@ module _ (b : Blocks) (waiting : List Effect) (stored : ℕ) where
   sent_blocks result old now new es h tells =
       let plain = sent_plain result old now new es tells in
       grown_blocks b waiting es stored stored h (plain_grows b (left_before es waiting) es plain (can_left b waiting es h.placed)) (uncounted stored es plain)
+
+-- ---- whatever was told
+
+module _ (known : ℕ) (store : StoreState) (waiting : List Effect) where
+  -- a moment that gives way changes no room
+  pub room_for_left : (state : State) (more : List Effect) (what : What) → room_for known store state (left_before more waiting) what ≡ room_for known store state waiting what
+  room_for_left state more what =
+      ap (λ (b : Bool). event_growth state what == 0 || (is_reserved store.rooms (bound_after known state what) && b)) (reached_left what)
+    where
+      reached_left : (w : What) → is_reached_by store (left_before more waiting) w ≡ is_reached_by store waiting w
+      reached_left (whats.Publish p) = ap (is_reached store.rooms.reach) (spot_left store.blocks waiting more (block_length p))
+      reached_left (whats.Make reply config) = refl
+      reached_left (whats.Change reply config) = refl
+      reached_left (whats.Drop reply) = refl
+      reached_left (whats.Purge reply pattern below keep) = refl
+      reached_left (whats.Delete reply n) = refl
+      reached_left (whats.MakeConsumer reply name config update) = refl
+      reached_left (whats.DropConsumer reply name) = refl
+      reached_left (whats.Ack reply ack) = refl
+      reached_left (whats.Pull reply name ask) = refl
+      reached_left whats.Tick = refl
+      reached_left (whats.StreamInfo reply) = refl
+      reached_left (whats.MessageGet reply by) = refl
+      reached_left (whats.ConsumerInfo reply name) = refl
+      reached_left (whats.ConsumerNames reply offset) = refl
+      reached_left (whats.ConsumerList reply offset) = refl
+
+  pub told_grows : (result : Result Reply Left) (old : State) (what : What) (now : ℕ) (room : Bool) (es : List Effect) → room ≡ room_for known store old waiting what
+      → can_place store.blocks waiting ≡ true → TellsEventIn room result old what now es → Grows store.blocks (left_before es waiting) es
+  told_grows (Ok reply) old what now room es is can tells =
+      let made = event_effects old what now room in
+      subst (λ (l : List Effect). Grows store.blocks (left_before l waiting) l) (sym tells)
+      (event_grows known store (left_before made waiting) old what now room (is ∙ sym (room_for_left old made what)) (can_left store.blocks waiting made can))
+  told_grows (Err left) old what now room es is can tells = plain_grows store.blocks (left_before es waiting) es (left_plain left old now es tells) (can_left store.blocks waiting es can)
 
 -- ---- the messages that a state has, and the one before has not
 
@@ -409,11 +404,3 @@ counted_other made e stored is other = counted_none made stored (ap (λ (o : Opt
 
 pub counted_without : (made : Made) (stored : ℕ) → made.own.effect ≡ None → IsCounted stored (stored_by (effects_in made)) stored
 counted_without made stored is = counted_none made stored (ap (λ (o : Option Effect). stored_by (option_to_list o)) is)
-
--- each other thing that is asked
-pub others_have_room : (b : Blocks) (waiting : List Effect) (what : What) → ((p : Publish) → what ≢ whats.Publish p) → room_for b waiting what ≡ true
-others_have_room b waiting what other = go (only_publishes b waiting 0 what (room_for b waiting what) refl)
-  where
-    go : (room_for b waiting what ≡ true) ⊎ ((p : Publish) × (what ≡ whats.Publish p)) → room_for b waiting what ≡ true
-    go (inl is) = is
-    go (inr publish) = absurd (other publish.0 publish.1)

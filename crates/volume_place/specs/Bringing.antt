@@ -3,10 +3,10 @@ use Rattle.std.specs.Prelude.{◌≡◌, ◌⊎◌, ℕ, List, take, Option, Non
 use Rattle.js_base.specs.declared.out.Out.{Out}
 use Rattle.stream_store.specs.declared.fault.CommitFault.{CommitFault}
 use Rattle.stream_store.specs.declared.fault.CommitFault.TheVariants as commit
-use Rattle.place_engine.specs.Flushing.{FailsFlush, FillsFlush, Flushed, Unflushed, WearsFlush}
+use Rattle.place_engine.specs.Flushing.{FailsFlush, Flushed, Unflushed, WearsFlush}
 use Rattle.place_engine.specs.Stepping.{Seen}
 use Rattle.place_engine.specs.declared.faults.PlaceFault.{PlaceFault}
-use Rattle.place_engine.specs.declared.faults.PlaceFault.TheVariants.{NoMemory, StoreFault, Full, Stopped, Gone, Worn}
+use Rattle.place_engine.specs.declared.faults.PlaceFault.TheVariants.{NoMemory, StoreFault, Stopped, Gone, Worn}
 use Rattle.place_engine.specs.declared.faults.Left.TheVariants.{Nothing, Ticked, Unsaid}
 use Rattle.volume_place.specs.Tail.{is_small}
 
@@ -14,7 +14,6 @@ abbrev pub Brings : Result (Unit {0}) CommitFault → Seen → Seen → Type 0
 Brings (Ok done) old new = Flushed old new
 Brings (Err commit.NoMemory) old new = Unflushed old new
 Brings (Err commit.Fault) old new = FailsFlush old new
-Brings (Err commit.Full) old new = FillsFlush old new
 Brings (Err commit.Worn) old new = WearsFlush old new
 
 -- ---- once something was made, which waits as the last and is urgent or not
@@ -24,11 +23,10 @@ pub record CommitsAll (urgent : Bool) (old new : Seen) : Type 0 where
   pub cause : (urgent ≡ true) ⊎ (is_small old.waiting ≡ false)
   pub all : Flushed old new
 
--- nothing is, and the log would not be too long with it
+-- nothing is
 pub record HoldsBack (urgent : Bool) (old new : Seen) : Type 0 where
   pub patient : urgent ≡ false
   pub small : is_small old.waiting ≡ true
-  pub fits : ¬ old.is_full old.waiting
   pub rests : Unflushed old new
 
 -- it goes on only if it is known whether that is urgent
@@ -40,7 +38,6 @@ abbrev pub Concludes : Option Bool → Result (Unit {0}) CommitFault → Seen �
 Concludes urgent (Ok done) old new = GoesOn urgent old new
 Concludes urgent (Err commit.NoMemory) old new = Unflushed old new
 Concludes urgent (Err commit.Fault) old new = FailsFlush old new
-Concludes urgent (Err commit.Full) old new = FillsFlush old new
 Concludes urgent (Err commit.Worn) old new = WearsFlush old new
 
 -- What was made has this for a refusal or not; before it there were so many outputs. They stay, unless the place is stopped.
@@ -48,7 +45,6 @@ abbrev pub Confirms : Option Bool → Bool → ℕ → Result (Unit {0}) PlaceFa
 Confirms urgent refused count (Ok done) old new before after = GoesOn urgent old new × (after ≡ before)
 Confirms urgent refused count (Err (NoMemory (Unsaid told))) old new before after = Unflushed old new × (told ≡ refused) × (after ≡ before)
 Confirms urgent refused count (Err StoreFault) old new before after = FailsFlush old new × (after ≡ take count before)
-Confirms urgent refused count (Err Full) old new before after = FillsFlush old new × (after ≡ take count before)
 Confirms urgent refused count (Err (NoMemory Nothing)) old new before after = ⊥
 Confirms urgent refused count (Err (NoMemory Ticked)) old new before after = ⊥
 Confirms urgent refused count (Err (Stopped kept)) old new before after = ⊥

@@ -18,3 +18,5 @@ pub record Contents (V : Type 0) : Type 0 where
   pub stored : ℕ
   -- the volume's count of faults as it stopped the place, if it did
   pub stopped : Option ℕ
+  -- what of it counts whatever messages there are takes no more bytes in the first batch of a next log: the texts of its configurations
+  pub fixed : ℕ

@@ -33,7 +33,8 @@ abbrev pub base : {V : Type 0} → Type 0 → (V → Disk) → Option ℕ → V 
 base told disk None vol state = told × holds (disk vol).seen state
 base told disk (Some count) vol state = IsLeftNow told disk vol state
 
--- a call counts its faults, and the time of its disk goes on
-pub record Keeps {V : Type 0} (disk : V → Disk) (faults : V → ℕ) (old new : V) : Type 0 where
+-- a call counts its faults and its refusals of room, and the time of its disk goes on
+pub record Keeps {V : Type 0} (disk : V → Disk) (faults refusals : V → ℕ) (old new : V) : Type 0 where
   pub faults_later : faults old ≤ faults new
+  pub refusals_later : refusals old ≤ refusals new
   pub moment_later : (disk old).moment ≤ (disk new).moment

@@ -1,10 +1,12 @@
 pub mod Contents
+pub mod Growing
 pub mod Images
 pub mod Laws
 pub mod Opening
 pub mod Rooms
 pub mod Seeing
 pub mod Sound
+pub mod Reserve
 pub mod Tail
 pub mod Since
 pub mod Moments
@@ -12,4 +14,5 @@ pub mod Measured
 pub mod Leaving
 pub mod Committed
 pub mod Bringing
+pub mod Preparing
 pub mod Making

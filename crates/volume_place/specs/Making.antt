@@ -12,22 +12,22 @@ use Rattle.place_engine.specs.declared.faults.Left.{Left}
 use Rattle.volume_place.specs.Contents.{Contents}
 use Rattle.volume_place.specs.Rooms.{IsCounted, room_in, stored_by}
 
--- all but what stands, what waits since when, and how many messages count is as it was
+-- all but what stands, what waits since when, how many messages count, and how long its texts are is as it was
 abbrev pub KeepsStore : {V : Type 0} → Contents V → Contents V → Type 0
-KeepsStore old new = new ≡ record old { state = new.state; waiting = new.waiting; since = new.since; stored = new.stored }
+KeepsStore old new = new ≡ record old { state = new.state; waiting = new.waiting; since = new.since; stored = new.stored; fixed = new.fixed }
 
--- whether the place has a block for what is asked of it
-abbrev pub has_block_for : {V : Type 0} → Contents V → What → Bool
-has_block_for place what = room_in place.stopped place.store.blocks place.waiting what
+-- whether the place has room for what is asked of it
+abbrev pub has_room_for : {V : Type 0} → Contents V → What → Bool
+has_room_for place what = room_in place.stopped place.fixed place.store place.state place.waiting what
 
 -- it answers what is asked at a moment
 abbrev pub Answers : {V : Type 0} → What → ℕ → Reply → List Out → List Out → Contents V → Contents V → Type 0
-Answers what now reply outs_old outs_new old new = PlaceAnswersIn (has_block_for old what) old.state what now reply outs_old outs_new new.state
+Answers what now reply outs_old outs_new old new = PlaceAnswersIn (has_room_for old what) old.state what now reply outs_old outs_new new.state
 
 -- the records of an event wait behind those from before, and a message that they store counts
 pub record RecordsEvent {V : Type 0} (result : Result Reply Left) (what : What) (now : ℕ) (old new : Contents V) : Type 0 where
   pub effects : List Effect
-  pub told : TellsEventIn (has_block_for old what) result old.state what now effects
+  pub told : TellsEventIn (has_room_for old what) result old.state what now effects
   pub waiting : new.waiting ≡ followed old.waiting effects
   pub counted : IsCounted old.stored (stored_by effects) new.stored
 

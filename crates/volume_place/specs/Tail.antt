@@ -9,24 +9,13 @@ use Rattle.js_model.specs.Firm.{IsFirmStep}
 use Rattle.effects.specs.Effects.{delivery_effects}
 use Rattle.effects.specs.declared.effect.Effect.{Effect}
 use Rattle.op_records.specs.Spelling.{spelled}
-use Rattle.stream_store.specs.StoreState.{StoreState}
 use Rattle.place_engine.specs.Following.{followed, is_now}
 use Rattle.place_engine.specs.Stepping.{IsFlushed, IsPutOff, LeavesVolume, Seen, effects_of}
-use Rattle.volume_place.specs.Seeing.{IsFull}
 use Rattle.volume_place.specs.Since.{IsOverdue}
 
 -- fewer than 1,024 records, and less than 1 MiB as they are spelled with the messages that they store
 abbrev pub is_small : List Effect → Bool
 is_small effects = nat_lt (length effects) 1024 && nat_lt (length (flat_map spelled effects)) (2 ^ 20)
-
--- and the log would not be too long with a batch of them
-pub record MayWait (store : StoreState) (effects : List Effect) : Type 0 where
-  pub small : is_small effects ≡ true
-  pub fits : ¬ IsFull store effects
-
--- they are not few or not short, or the log would be too long
-abbrev pub MustNotWait : StoreState → List Effect → Type 0
-MustNotWait store effects = (is_small effects ≡ false) ⊎ IsFull store effects
 
 -- ---- what becomes of a step or of a delivery with these records
 

@@ -1,6 +1,6 @@
 //! What of a place waits for a commit.
 
-ghost use Rattle.std.specs.Prelude.{◌≡◌, ◌<◌, ◌+◌, ◌++◌, [], true, false, not, take, drop, vec_len, IfOk, MatchOption, OnErr, OnOk, IsTrue};
+ghost use Rattle.std.specs.Prelude.{◌≡◌, ◌<◌, ◌+◌, ◌++◌, [], true, false, not, take, drop, vec_len, IfOk, OnErr, OnOk, IsTrue};
 ghost use Rattle.std.specs.List.{list_all};
 ghost use Rattle.effects.specs.declared.effect.Effect.{Effect};
 ghost use Rattle.op_records.specs.Allowed.{is_record};
@@ -109,21 +109,16 @@ impl Tail {
         Ok(self.lengths(alloc)?.logged)
     }
 
-    /// The same, if they are so few and so short that they may wait.
-    pub(crate) fn measure(&mut self, alloc: Global) -> Result<Option<usize>, NoMemory>
+    /// Whether they are so few and so short that they may wait.
+    pub(crate) fn is_small(&mut self, alloc: Global) -> Result<bool, NoMemory>
         requires records { IsTrue (list_all is_record self.old) }
         ensures same { self.new ≡ self.old }
-        ensures value { IfOk result (λ bytes. MatchOption bytes (is_small self.old ≡ false) (λ n. (is_small self.old ≡ true) × (n ≡ batch_length self.old))) }
+        ensures value { IfOk result (λ small. small ≡ is_small self.old) }
     {
         if self.records.len() >= MAX_RECORDS {
-            return Ok(None);
+            return Ok(false);
         }
-        let lengths = self.lengths(alloc)?;
-        if lengths.waiting < MAX_BYTES {
-            Ok(Some(lengths.logged))
-        } else {
-            Ok(None)
-        }
+        Ok(self.lengths(alloc)?.waiting < MAX_BYTES)
     }
 
     /// Forgets the records.

@@ -4,46 +4,60 @@ ghost use Rattle.std.specs.Prelude.{◌≡◌, Decides, Err, IfErr, IfOk, IfSome
 ghost use Rattle.js_base.specs.Causes.{Rose};
 ghost use Rattle.js_model.specs.Events.{kept_incarnation};
 ghost use Rattle.js_model.specs.Firm.{IsFirmStep};
-ghost use Rattle.js_model.specs.Proper.{is_proper};
+ghost use Rattle.js_model.specs.Proper.{is_proper, is_proper_what};
 ghost use Rattle.memory_place.specs.Answers.{LeftBy, MayDeliver};
 ghost use Rattle.place_engine.specs.Delivering.{Delivers, batch_with};
 ghost use Rattle.place_engine.specs.Flushing.{Flushes};
-ghost use Rattle.place_engine.specs.Opening.{IsOpened, IsUnopened};
+ghost use Rattle.place_engine.specs.Opening.{HasNoRoom, IsOpened, IsUnopened};
 ghost use Rattle.place_engine.specs.Places.{IsTold};
+ghost use Rattle.place_engine.specs.Preparing.{Prepares};
 ghost use Rattle.place_engine.specs.Shown.{IsShown};
 ghost use Rattle.place_engine.specs.Stepping.{Elapses, IsKept, Steps, batch_of};
 ghost use Rattle.timers.specs.Bounds.{IsTimerBound};
 ghost use Rattle.timers.specs.Timers.{timers};
+ghost use Rattle.snapshot_bound.specs.Bounds.{capped};
 ghost use Rattle.stream_store.specs.Clearing.{AreCleared, IsOtherClosed};
+ghost use Rattle.stream_store.specs.Rooms.{OutgrowsLogs};
 ghost use Rattle.volume_place.specs.Bringing.{Brings, Concludes, Confirms};
+ghost use Rattle.volume_place.specs.Growing.{IsGrowth, bound_after};
 ghost use Rattle.volume_place.specs.Images.{Keeps, base, clock, holds, left, reads};
 ghost use Rattle.volume_place.specs.Leaving.{IsLeftIfToldWorn, IsLeftIfWorn, LogGoes};
 ghost use Rattle.volume_place.specs.Making.{Answers, KeepsStore, RecordsDelivery, RecordsEvent};
 ghost use Rattle.volume_place.specs.Opening.{fault_of, opens, refuses};
-ghost use Rattle.volume_place.specs.Seeing.{seen_of};
+ghost use Rattle.volume_place.specs.Preparing.{KeepsButRoom, KeepsImages, MakesRoom};
+ghost use Rattle.volume_place.specs.Seeing.{causes_of, outgrows_log, seen_of};
 ghost use Rattle.volume_place.specs.Since.{KeepsTail, since_by, tail_timers};
-ghost use Rattle.volume_place.specs.Tail.{MayWait, MustNotWait, SharesDelivery, SharesStep};
+ghost use Rattle.volume_place.specs.Tail.{SharesDelivery, SharesStep, is_small};
 
-use crate::committing::{commit, takes};
+use crate::asking::{Growth, bound_with, growth_of};
+use crate::committing::commit;
 use crate::firm::{Answered, is_firm};
 use crate::outputs::{cut_to, is_refused};
+use crate::preparing::{keep_reserve, make_room};
 use crate::room::{answer_in, count_with, has_room};
 use crate::since::{due, is_overdue, is_urgent, since_with};
 use crate::tail::Tail;
 use js_base::{Blob, Moment, NoMemory, Outs};
-use js_model::{Delivery, Event, Listening, Reply};
+use js_model::{Delivery, Event, Listening, Reply, What};
 use memory_place::Slot;
 use place_engine::{Left, OpenFault, Place, PlaceFault, Push};
 use place_records::Made;
+use snapshot_bound::fixed_of;
 use std::alloc::Global;
 use std::marker::Model;
-use stream_store::{CommitFault, Store};
+use stream_store::{CommitFault, RoomFault, Store};
 use timer_bounds::earlier;
 use vol_disk::Vol;
 
+/// No log begins with more bytes.
+const GREATEST: u64 = (1 << 31) - (1 << 16);
+
 /// A place whose stream is kept on a volume. A step that is firm is committed before it is answered, together with all that waits. What any other step and a
 /// delivery change waits, until there are 1,024 records or 1 MiB of them, or until a tick a second after the first of it was made. A commit that would make the
-/// log long leaves it for the next one, which begins with all that lasts. In memory it keeps the stream, and the records that wait.
+/// log long, or that has no room in it, leaves it for the next one, which begins with all that lasts. In memory it keeps the stream, and the records that wait.
+///
+/// Both logs are long enough for a next one that begins with all that may last, and each message that waits has room in the file where it goes. So a commit finds
+/// its room in any case; and what would make the place come to more is refused where no room was made for it before.
 #[derive(Drop)]
 pub struct VolumePlace<V: Vol> {
     alloc: Global,
@@ -60,12 +74,15 @@ pub struct VolumePlace<V: Vol> {
     stored: u64,
     /// The volume's count of faults as it stopped the place, if it did.
     stopped: Option<u64>,
+    /// Its texts take no more bytes in the first batch of a next log: those of its configurations, and of what is picked for its consumers.
+    fixed: u64,
 }
 
 impl<V: Vol> Model for VolumePlace<V> {
     ghost use Rattle.place_engine.specs.Following.{followed};
     ghost use Rattle.place_records.specs.Records.{effects_in};
     ghost use Rattle.volume_place.specs.Contents.{Contents};
+    ghost use Rattle.volume_place.specs.Reserve.{HasReserve};
     ghost use Rattle.volume_place.specs.Rooms.{MayStore};
     ghost use Rattle.volume_place.specs.Since.{IsDated};
     ghost use Rattle.volume_place.specs.Sound.{IsSoundPlace};
@@ -80,12 +97,14 @@ impl<V: Vol> Model for VolumePlace<V> {
       since = place.since;
       stored = place.stored;
       stopped = place.stopped;
+      fixed = place.fixed;
     } };
 
     ghost invariant = { λ place.
         IsSoundPlace V.told (V.disk place.vol) place.store (followed place.tail (effects_in place.made)) place.stopped place.slot
         × MayStore place.stopped place.store.blocks (followed place.tail (effects_in place.made)) place.stored
-        × IsDated (followed place.tail (effects_in place.made)) place.since };
+        × IsDated (followed place.tail (effects_in place.made)) place.since
+        × HasReserve V.told (V.disk place.vol) place.store (followed place.tail (effects_in place.made)) place.stopped place.fixed place.slot };
 }
 
 /// Why a store was not opened, as a place tells it.
@@ -98,14 +117,15 @@ fn fault_of(fault: stream_store::OpenFault) -> OpenFault
         stream_store::OpenFault::UnknownVersion(version) => {
             OpenFault::UnknownVersion(u64::from(version))
         }
+        stream_store::OpenFault::NoRoom => OpenFault::NoRoom,
         stream_store::OpenFault::NoMemory => OpenFault::NoMemory,
     }
 }
 
 /// Tells whoever runs the server that the stream is stopped, if there is one.
-fn tell_stopped<V: Vol>(slot: &Slot, vol: &V, full: bool) {
+fn tell_stopped<V: Vol>(slot: &Slot, vol: &V) {
     if let Some(name) = slot.name() {
-        vol.tell_stopped(name.as_slice(), full);
+        vol.tell_stopped(name.as_slice());
     }
 }
 
@@ -132,14 +152,25 @@ impl<V: Vol> VolumePlace<V> {
         let Ok(_) = self.tail.take(&mut self.made) else {
             return Err(Left::Nothing);
         };
+        let Ok(growth) = growth_of(self.alloc, &self.slot, &event.what) else {
+            return Err(Left::Nothing);
+        };
         let waiting = self.tail.records();
-        let Ok(room) = has_room(&mut self.store, waiting, self.stored, &event.what) else {
+        let Ok(room) = has_room(
+            &self.slot,
+            self.fixed,
+            &mut self.store,
+            waiting,
+            &event.what,
+            growth,
+        ) else {
             return Err(Left::Nothing);
         };
         let said = answer_in(&mut self.slot, room, &event.what, now, outs, &mut self.made);
         self.since = since_with(self.since, &self.made, now);
         let reply = said?;
         self.stored = count_with(self.stored, &self.made);
+        self.fixed = growth.raise(self.fixed, room);
         let firm = match self.tail.take(&mut self.made) {
             Ok(more) => {
                 let changes = more || self.slot.id_count() < ids;
@@ -174,15 +205,15 @@ impl<V: Vol> VolumePlace<V> {
         sent
     }
 
-    /// Commits all that waits, if anything does, in the next log if it would make this one long. A fault, or a log that is full, stops the place. `Worn` and
+    /// Commits all that waits, if anything does, in the next log if it would make this one long, or finds no room in it. A fault stops the place. `Worn` and
     /// `NoMemory` leave all as it was.
     #[tactic(none)]
     fn bring(&mut self) -> Result<(), CommitFault>
         requires going { self.old.stopped ≡ None }
-        ensures brings { Brings result (seen_of V.told V.disk V.faults self.old) (seen_of V.told V.disk V.faults self.new) }
+        ensures brings { Brings result (seen_of V.told V.disk V.faults V.refusals self.old) (seen_of V.told V.disk V.faults V.refusals self.new) }
         ensures log { MatchResult result (λ done. LogGoes self.old.waiting self.old self.new) (λ fault. IsLeftIfWorn fault self.new) }
         ensures tail { KeepsTail self.old self.new }
-        ensures time { Elapses holds (seen_of V.told V.disk V.faults self.old) (seen_of V.told V.disk V.faults self.new) }
+        ensures time { Elapses holds (seen_of V.told V.disk V.faults V.refusals self.old) (seen_of V.told V.disk V.faults V.refusals self.new) }
     {
         let Ok(_) = self.tail.take(&mut self.made) else {
             return Err(CommitFault::NoMemory);
@@ -190,12 +221,14 @@ impl<V: Vol> VolumePlace<V> {
         if self.tail.records().is_empty() {
             return Ok(());
         }
+        let bound = bound_with(&self.slot, self.fixed);
         match commit(
             self.alloc,
             &self.slot,
             &mut self.store,
             &mut self.vol,
             &mut self.tail,
+            bound,
         ) {
             Ok(()) => {
                 self.tail.clear();
@@ -208,33 +241,26 @@ impl<V: Vol> VolumePlace<V> {
                 self.stopped = Some(self.vol.faults());
                 Err(CommitFault::Fault)
             }
-            Err(CommitFault::Full) => {
-                self.stopped = Some(self.vol.faults());
-                Err(CommitFault::Full)
-            }
         }
     }
 
-    /// Whether all that waits may wait on: it is little, and can be committed.
+    /// Whether all that waits may wait on: it is little.
     fn may_wait(&mut self) -> Result<bool, NoMemory>
         ensures same { self.new ≡ self.old }
-        ensures waits { IfOk result (λ waits. MatchBool waits (MayWait self.old.store self.old.waiting) (MustNotWait self.old.store self.old.waiting)) }
+        ensures waits { IfOk result (λ waits. waits ≡ is_small self.old.waiting) }
     {
         self.tail.take(&mut self.made)?;
-        let Some(bytes) = self.tail.measure(self.alloc)? else {
-            return Ok(false);
-        };
-        Ok(self.tail.records().is_empty() || takes(&self.store, bytes))
+        self.tail.is_small(self.alloc)
     }
 
     /// Commits all that waits once something was made that is urgent, or if it may not wait on. If it is not known whether that is urgent, it is `NoMemory`,
     /// which leaves all as it was.
     fn conclude(&mut self, urgent: Option<bool>) -> Result<(), CommitFault>
         requires going { self.old.stopped ≡ None }
-        ensures concludes { Concludes urgent result (seen_of V.told V.disk V.faults self.old) (seen_of V.told V.disk V.faults self.new) }
+        ensures concludes { Concludes urgent result (seen_of V.told V.disk V.faults V.refusals self.old) (seen_of V.told V.disk V.faults V.refusals self.new) }
         ensures log { MatchResult result (λ done. LogGoes self.old.waiting self.old self.new) (λ fault. IsLeftIfWorn fault self.new) }
         ensures tail { KeepsTail self.old self.new }
-        ensures time { Elapses holds (seen_of V.told V.disk V.faults self.old) (seen_of V.told V.disk V.faults self.new) }
+        ensures time { Elapses holds (seen_of V.told V.disk V.faults V.refusals self.old) (seen_of V.told V.disk V.faults V.refusals self.new) }
     {
         let Some(urgent) = urgent else {
             return Err(CommitFault::NoMemory);
@@ -254,10 +280,10 @@ impl<V: Vol> VolumePlace<V> {
         outs: &mut Outs,
     ) -> Result<(), PlaceFault>
         requires going { self.old.stopped ≡ None }
-        ensures confirms { Confirms urgent refused count result (seen_of V.told V.disk V.faults self.old) (seen_of V.told V.disk V.faults self.new) outs.old outs.new }
+        ensures confirms { Confirms urgent refused count result (seen_of V.told V.disk V.faults V.refusals self.old) (seen_of V.told V.disk V.faults V.refusals self.new) outs.old outs.new }
         ensures log { MatchResult result (λ done. LogGoes self.old.waiting self.old self.new) (λ fault. IsLeftIfToldWorn fault self.new) }
         ensures tail { KeepsTail self.old self.new }
-        ensures time { Elapses holds (seen_of V.told V.disk V.faults self.old) (seen_of V.told V.disk V.faults self.new) }
+        ensures time { Elapses holds (seen_of V.told V.disk V.faults V.refusals self.old) (seen_of V.told V.disk V.faults V.refusals self.new) }
     {
         match self.conclude(urgent) {
             Ok(()) => Ok(()),
@@ -265,13 +291,52 @@ impl<V: Vol> VolumePlace<V> {
             Err(CommitFault::Worn) => Err(PlaceFault::Worn { refused }),
             Err(CommitFault::Fault) => {
                 cut_to(self.alloc, count, outs);
-                tell_stopped(&self.slot, &self.vol, false);
+                tell_stopped(&self.slot, &self.vol);
                 Err(PlaceFault::StoreFault)
             }
-            Err(CommitFault::Full) => {
-                cut_to(self.alloc, count, outs);
-                tell_stopped(&self.slot, &self.vol, true);
-                Err(PlaceFault::Full)
+        }
+    }
+
+    /// What the place comes to at most with what is asked, which raises it by no more than that. If the logs are too short for it, the texts are measured anew
+    /// first, since some that count may be gone; but not for a publish, unless the place would come to more than a log can begin with.
+    fn bound_after(&mut self, what: &What, growth: Growth) -> Result<u64, NoMemory>
+        requires going { self.old.stopped ≡ None }
+        requires growth { IsGrowth self.old.state what.now growth }
+        ensures same { self.new ≡ record self.old { fixed = self.new.fixed } }
+        ensures count { IfOk result (λ count. count ≡ capped (bound_after self.new.fixed self.old.state what.now)) }
+        ensures exact { IfOk result (λ count. OutgrowsLogs count → outgrows_log self.old.state what.now) }
+    {
+        let count = bound_with(&self.slot, self.fixed).saturating_add(growth.whole());
+        if self.store.is_reserved(count) {
+            return Ok(count);
+        }
+        if count <= GREATEST && matches!(what, What::Publish(_)) {
+            return Ok(count);
+        }
+        let durable = self.slot.durable()?;
+        self.fixed = fixed_of(self.alloc, &durable)?;
+        Ok(bound_with(&self.slot, self.fixed).saturating_add(growth.whole()))
+    }
+
+    /// Makes room for a place that comes to so much at most with what is asked, if there is some, and for its message. Nothing else changes. A fault stops the place.
+    fn make_room(&mut self, what: &What, count: u64) -> Result<(), RoomFault>
+        requires going { self.old.stopped ≡ None }
+        requires proper { IsTrue (is_proper_what what.now) }
+        requires count { count ≡ capped (bound_after self.old.fixed self.old.state what.now) }
+        requires exact { OutgrowsLogs count → outgrows_log self.old.state what.now }
+        ensures makes { MakesRoom result what.now (seen_of V.told V.disk V.faults V.refusals self.old) (seen_of V.told V.disk V.faults V.refusals self.new) }
+        ensures images { KeepsImages holds (seen_of V.told V.disk V.faults V.refusals self.old) (seen_of V.told V.disk V.faults V.refusals self.new) }
+        ensures same { KeepsButRoom self.old self.new }
+        ensures time { Elapses holds (seen_of V.told V.disk V.faults V.refusals self.old) (seen_of V.told V.disk V.faults V.refusals self.new) }
+    {
+        self.tail.take(&mut self.made)?;
+        let waiting = self.tail.records();
+        match make_room(&mut self.store, &mut self.vol, waiting, what, count) {
+            Ok(()) => Ok(()),
+            Err(RoomFault::NoMemory) => Err(RoomFault::NoMemory),
+            Err(RoomFault::Fault) => {
+                self.stopped = Some(self.vol.faults());
+                Err(RoomFault::Fault)
             }
         }
     }
@@ -283,13 +348,13 @@ impl<V: Vol> Place for VolumePlace<V> {
 
     type Vol = V;
 
-    ghost seen = { seen_of V.told V.disk V.faults };
+    ghost seen = { seen_of V.told V.disk V.faults V.refusals };
 
     ghost holds = { holds };
 
     ghost vol = { λ place. place.vol };
 
-    ghost keeps_vol = { Keeps V.disk V.faults };
+    ghost keeps_vol = { Keeps V.disk V.faults V.refusals };
 
     ghost reads = { reads V.told V.disk };
 
@@ -299,6 +364,8 @@ impl<V: Vol> Place for VolumePlace<V> {
 
     ghost faults = { V.faults };
 
+    ghost room_causes = { causes_of V.refusals };
+
     ghost base = { base V.told V.disk };
 
     ghost opens = { opens V.told V.disk };
@@ -306,14 +373,16 @@ impl<V: Vol> Place for VolumePlace<V> {
     ghost refuses = { refuses V.told V.disk };
 
     /// What the volume holds is read, and a stream restored to it. If the volume never had a place, a log is begun on it that says so. The log that is not current
-    /// is cleared, and files that are no blocks, and in which a crash left bytes, are cut to nothing.
+    /// is cleared, and files that are no blocks, and in which a crash left bytes, are cut to nothing. If there is a stream, room is made in both logs for a next one
+    /// that begins with it, where they are not long enough.
     fn open(alloc: Global, volume: V) -> Result<VolumePlace<V>, (OpenFault, V)>
-        ensures opened { IfOk result (λ place. IsOpened holds (reads V.told V.disk) (left V.told V.disk) (clock V.disk) (opens V.told V.disk) volume (seen_of V.told V.disk V.faults place)) }
-        ensures vol { IfOk result (λ place. Keeps V.disk V.faults volume place.vol) }
+        ensures opened { IfOk result (λ place. IsOpened holds (reads V.told V.disk) (left V.told V.disk) (clock V.disk) (opens V.told V.disk) volume (seen_of V.told V.disk V.faults V.refusals place)) }
+        ensures vol { IfOk result (λ place. Keeps V.disk V.faults V.refusals volume place.vol) }
         ensures refused { IfErr result (λ stop. refuses V.told V.disk volume stop.0) }
         ensures cause { IfErr result (λ stop. stop.0 ≡ OpenFault.Fault → Rose (V.faults volume) (V.faults stop.1)) }
+        ensures no_room { IfErr result (λ stop. stop.0 ≡ OpenFault.NoRoom → HasNoRoom (causes_of V.refusals) (opens V.told V.disk) volume stop.1) }
         ensures unopened { IfErr result (λ stop. IsUnopened holds (reads V.told V.disk) (left V.told V.disk) (clock V.disk) (opens V.told V.disk) volume stop.1) }
-        ensures given_back { IfErr result (λ stop. Keeps V.disk V.faults volume stop.1) }
+        ensures given_back { IfErr result (λ stop. Keeps V.disk V.faults V.refusals volume stop.1) }
         ensures cleared { V.told → IfOk result (λ place. AreCleared place.store.blocks (V.disk volume) (V.disk place.vol)) }
         ensures closed { V.told → IfOk result (λ place. IsOtherClosed place.store.log (V.disk place.vol)) }
     {
@@ -326,6 +395,10 @@ impl<V: Vol> Place for VolumePlace<V> {
             Ok(()) => {}
             Err(fault) => return Err((fault_of(fault), vol)),
         }
+        let fixed = match keep_reserve(alloc, &mut store, &mut vol, &durable) {
+            Ok(fixed) => fixed,
+            Err(fault) => return Err((fault, vol)),
+        };
         let Ok(slot) = Slot::restore(alloc, durable) else {
             return Err((OpenFault::NoMemory, vol));
         };
@@ -340,6 +413,7 @@ impl<V: Vol> Place for VolumePlace<V> {
             since: None,
             stored,
             stopped: None,
+            fixed,
         })
     }
 
@@ -379,15 +453,44 @@ impl<V: Vol> Place for VolumePlace<V> {
         earlier(self.slot.next_timer(), due(self.since))
     }
 
+    /// The volume is called only where that which is known of its files does not do.
+    fn prepare(&mut self, what: &What) -> Result<(), PlaceFault>
+        requires proper { IsTrue (is_proper_what what.now) }
+        ensures prepares { Prepares holds outgrows_log result what.now (seen_of V.told V.disk V.faults V.refusals self.old) (seen_of V.told V.disk V.faults V.refusals self.new) }
+        ensures vol { Keeps V.disk V.faults V.refusals self.old.vol self.new.vol }
+        ensures same { KeepsButRoom self.old self.new }
+    {
+        if let Some(count) = self.stopped {
+            return Err(PlaceFault::Stopped(count));
+        }
+        let Ok(growth) = growth_of(self.alloc, &self.slot, what) else {
+            return Err(PlaceFault::NoMemory(Left::Nothing));
+        };
+        if growth.whole() == 0 {
+            return Ok(());
+        }
+        let Ok(count) = self.bound_after(what, growth) else {
+            return Err(PlaceFault::NoMemory(Left::Nothing));
+        };
+        match self.make_room(what, count) {
+            Ok(()) => Ok(()),
+            Err(RoomFault::NoMemory) => Err(PlaceFault::NoMemory(Left::Nothing)),
+            Err(RoomFault::Fault) => {
+                tell_stopped(&self.slot, &self.vol);
+                Err(PlaceFault::StoreFault)
+            }
+        }
+    }
+
     /// It is committed with all that waits if it is firm, if it is a tick a second or more after the first of that was made, or if that may not wait on.
     fn step(&mut self, event: &Event, now: Moment, outs: &mut Outs) -> Result<Reply, PlaceFault>
         requires told { IsTold event.now.what }
         requires proper { IsTrue (is_proper event.now) }
-        ensures steps { Steps holds result event.now now (seen_of V.told V.disk V.faults self.old) (seen_of V.told V.disk V.faults self.new) outs.old outs.new }
+        ensures steps { Steps holds result event.now now (seen_of V.told V.disk V.faults V.refusals self.old) (seen_of V.told V.disk V.faults V.refusals self.new) outs.old outs.new }
         ensures shown { IfOk result IsShown }
-        ensures vol { Keeps V.disk V.faults self.old.vol self.new.vol }
-        ensures shares { IfOk result (λ reply. SharesStep self.old.since reply event.now now (seen_of V.told V.disk V.faults self.old) (seen_of V.told V.disk V.faults self.new)) }
-        ensures log { MatchResult result (λ reply. LogGoes (batch_of event.now now (seen_of V.told V.disk V.faults self.old)) self.old self.new) (λ fault. IsLeftIfToldWorn fault self.new) }
+        ensures vol { Keeps V.disk V.faults V.refusals self.old.vol self.new.vol }
+        ensures shares { IfOk result (λ reply. SharesStep self.old.since reply event.now now (seen_of V.told V.disk V.faults V.refusals self.old) (seen_of V.told V.disk V.faults V.refusals self.new)) }
+        ensures log { MatchResult result (λ reply. LogGoes (batch_of event.now now (seen_of V.told V.disk V.faults V.refusals self.old)) self.old self.new) (λ fault. IsLeftIfToldWorn fault self.new) }
         ensures since { self.new.since ≡ since_by now self.old.since self.new.waiting }
     {
         if let Some(count) = self.stopped {
@@ -416,10 +519,10 @@ impl<V: Vol> Place for VolumePlace<V> {
         listening: &Listening,
         outs: &mut Outs,
     ) -> Result<Option<Delivery>, PlaceFault>
-        ensures delivers { Delivers holds result now listening.now (seen_of V.told V.disk V.faults self.old) (seen_of V.told V.disk V.faults self.new) outs.old outs.new }
-        ensures vol { Keeps V.disk V.faults self.old.vol self.new.vol }
-        ensures shares { IfOk result (λ made. IfSome made (λ delivery. SharesDelivery delivery now (seen_of V.told V.disk V.faults self.old) (seen_of V.told V.disk V.faults self.new))) }
-        ensures log { MatchResult result (λ made. IfSome made (λ delivery. LogGoes (batch_with now delivery (seen_of V.told V.disk V.faults self.old) (seen_of V.told V.disk V.faults self.new)) self.old self.new)) (λ fault. IsLeftIfToldWorn fault self.new) }
+        ensures delivers { Delivers holds result now listening.now (seen_of V.told V.disk V.faults V.refusals self.old) (seen_of V.told V.disk V.faults V.refusals self.new) outs.old outs.new }
+        ensures vol { Keeps V.disk V.faults V.refusals self.old.vol self.new.vol }
+        ensures shares { IfOk result (λ made. IfSome made (λ delivery. SharesDelivery delivery now (seen_of V.told V.disk V.faults V.refusals self.old) (seen_of V.told V.disk V.faults V.refusals self.new))) }
+        ensures log { MatchResult result (λ made. IfSome made (λ delivery. LogGoes (batch_with now delivery (seen_of V.told V.disk V.faults V.refusals self.old) (seen_of V.told V.disk V.faults V.refusals self.new)) self.old self.new)) (λ fault. IsLeftIfToldWorn fault self.new) }
         ensures since { self.new.since ≡ since_by now self.old.since self.new.waiting }
     {
         if let Some(count) = self.stopped {
@@ -437,9 +540,9 @@ impl<V: Vol> Place for VolumePlace<V> {
     }
 
     fn flush(&mut self) -> Result<(), PlaceFault>
-        ensures flushes { Flushes holds result (seen_of V.told V.disk V.faults self.old) (seen_of V.told V.disk V.faults self.new) }
+        ensures flushes { Flushes holds result (seen_of V.told V.disk V.faults V.refusals self.old) (seen_of V.told V.disk V.faults V.refusals self.new) }
         ensures log { MatchResult result (λ done. LogGoes self.old.waiting self.old self.new) (λ fault. IsLeftIfToldWorn fault self.new) }
-        ensures vol { Keeps V.disk V.faults self.old.vol self.new.vol }
+        ensures vol { Keeps V.disk V.faults V.refusals self.old.vol self.new.vol }
         ensures tail { KeepsTail self.old self.new }
     {
         if let Some(count) = self.stopped {
@@ -450,12 +553,8 @@ impl<V: Vol> Place for VolumePlace<V> {
             Err(CommitFault::NoMemory) => Err(PlaceFault::NoMemory(Left::Nothing)),
             Err(CommitFault::Worn) => Err(PlaceFault::Worn { refused: false }),
             Err(CommitFault::Fault) => {
-                tell_stopped(&self.slot, &self.vol, false);
+                tell_stopped(&self.slot, &self.vol);
                 Err(PlaceFault::StoreFault)
-            }
-            Err(CommitFault::Full) => {
-                tell_stopped(&self.slot, &self.vol, true);
-                Err(PlaceFault::Full)
             }
         }
     }
@@ -476,6 +575,7 @@ impl<V: Vol> Place for VolumePlace<V> {
             since: _,
             stored: _,
             stopped: _,
+            fixed: _,
         } = self;
         vol
     }
@@ -494,11 +594,11 @@ impl<V: Vol> Place for VolumePlace<V> {
 
     ghost earlier = { earlier_left V.told V.disk V.clocked };
 
-    ghost stands = { λ place. (refl, refl) };
+    ghost stands = { λ place. (refl, refl, refl) };
 
-    ghost keeps_later = { keeps_later V.disk V.faults };
+    ghost keeps_later = { keeps_later V.disk V.faults V.refusals };
 
-    ghost keeps_none = { keeps_none V.disk V.faults };
+    ghost keeps_none = { keeps_none V.disk V.faults V.refusals };
 
-    ghost keeps_more = { keeps_more V.disk V.faults };
+    ghost keeps_more = { keeps_more V.disk V.faults V.refusals };
 }

@@ -1,8 +1,4 @@
-use Rattle.std.proofs.Common.{refl, subst}
-use Rattle.js_base.specs.declared.out.ApiError.{ApiError}
-use Rattle.api_calls.specs.Names.{name_of}
-use Rattle.js_api.specs.Leading.{Makes}
-use Rattle.js_api.specs.OneStream.{Answers, refusal}
+use Rattle.std.proofs.Common.{refl}
 use Rattle.desk_ground.proofs.Stages.{nothing}
 use Rattle.desk_ground.proofs.answering.end_told.Goals as goal
 
@@ -10,9 +6,7 @@ pub returns-in-Made-clause-made : goal.returns-in-Made-clause-made
 returns-in-Made-clause-made g c = rw (c.in-Made.is, c.is_taken.ensures.value) (nothing g.G.Ground.made _ _ (g.met.G.Ground.made_nothing _) (record { result_is = refl; entries_are = refl }))
 
 pub returns-in-Broke-clause-made : goal.returns-in-Broke-clause-made
-returns-in-Broke-clause-made g c =
-    rw c.in-Broke.is
-    (subst (λ (e : ApiError). Makes g.G.Ground.made (Answers (refusal (name_of c.args.call) c.args.to.now e) c.refuse_for.result) c.args.ground.now c.refuse_for.new.ground) c.broken.ensures.value c.refuse_for.ensures.made)
+returns-in-Broke-clause-made g c = rw c.in-Broke.is c.refuse_for.ensures.made
 
 pub returns-in-Stopped-clause-made : goal.returns-in-Stopped-clause-made
 returns-in-Stopped-clause-made g c = rw c.in-Stopped.is c.refuse_for-in-Stopped.ensures.made

@@ -10,7 +10,7 @@ invariant-loop-alloc g l =
     let P = g.P.Place in
     record {
       opened : (came : List _) × (reverse l.fn.vols.items ≡ came ++ reverse l.vols.items)
-          × AllZip (OpensOn P.seen P.vol P.holds P.reads P.left P.clock P.faults P.base P.opens P.refuses P.keeps_vol) came l.places.items;
+          × AllZip (OpensOn P.seen P.vol P.holds P.reads P.left P.clock P.faults P.room_causes P.base P.opens P.refuses P.keeps_vol) came l.places.items;
       ahead : vec_len l.places + vec_len l.vols ≤ vec_capacity l.places;
       back : vec_len l.vols + vec_len l.places ≤ vec_capacity l.vols;
       few : vec_len l.vols + vec_len l.places ≤ vec_len l.fn.vols;

@@ -22,19 +22,19 @@ leave-requires-clause-own g c = c.in-Ok.ensures.comes.lock ∙ c.requires.own
 pub leave-requires-clause-by : goal.leave-requires-clause-by
 leave-requires-clause-by g c =
     let P = g.P.Place in let met = g.met.P.Place in let hub = c.in-Ok.field-0.value in let after = c.hold_by-outcome.result.1 in let h = c.hold_by-outcome.ensures in
-    by_seat P.seen P.vol P.holds P.reads P.left P.clock P.faults P.base P.keeps_vol met.bases met.leaves met.stands met.keeps_more hub.place after.place h.kept c.args.at c.in-Ok.field-0.seat hub.port after.port
+    by_seat P.seen P.vol P.holds P.reads P.left P.clock P.faults P.room_causes P.base P.keeps_vol met.bases met.leaves met.stands met.keeps_more hub.place after.place h.kept c.args.at c.in-Ok.field-0.seat hub.port after.port
     c.args.what c.args.now c.hold_by-outcome.result.0 c.hold_by-outcome.result.2.value c.number-number.result.value c.in-Ok.ensures.comes.stands_for c.number-number.ensures.own c.number-number.ensures.value h.made h.vol run_sends
 
 pub leave-requires-clause-stands : goal.leave-requires-clause-stands
 leave-requires-clause-stands g c =
     let P = g.P.Place in let met = g.met.P.Place in let hub = c.in-Ok.field-0.value in let after = c.hold_by-outcome.result.1 in let h = c.hold_by-outcome.ensures in
-    stands_behind P.seen P.vol P.holds P.reads P.left P.clock P.faults P.base P.keeps_vol met.bases met.leaves met.stands met.keeps_more hub.place after.place h.kept c.args.at c.in-Ok.field-0.seat hub.port after.port
+    stands_behind P.seen P.vol P.holds P.reads P.left P.clock P.faults P.room_causes P.base P.keeps_vol met.bases met.leaves met.stands met.keeps_more hub.place after.place h.kept c.args.at c.in-Ok.field-0.seat hub.port after.port
     c.args.what c.args.now c.hold_by-outcome.result.0 c.hold_by-outcome.result.2.value c.number-number.result.value c.in-Ok.ensures.comes.stands_for c.number-number.ensures.own c.number-number.ensures.value h.made h.vol run_sends
 
 pub returns-in-Ok-clause-made : goal.returns-in-Ok-clause-made
 returns-in-Ok-clause-made g c =
     let P = g.P.Place in let met = g.met.P.Place in let hub = c.in-Ok.field-0.value in let after = c.hold_by-outcome.result.1 in let h = c.hold_by-outcome.ensures in
-    made_in_turn P.seen P.vol P.holds P.reads P.left P.clock P.faults P.base P.keeps_vol met.bases met.leaves met.stands met.keeps_more hub.place after.place h.kept c.args.at c.in-Ok.field-0.seat hub.port after.port
+    made_in_turn P.seen P.vol P.holds P.reads P.left P.clock P.faults P.room_causes P.base P.keeps_vol met.bases met.leaves met.stands met.keeps_more hub.place after.place h.kept c.args.at c.in-Ok.field-0.seat hub.port after.port
     c.args.what c.args.now c.hold_by-outcome.result.0 c.hold_by-outcome.result.2.value c.number-number.result.value c.in-Ok.ensures.comes.stands_for c.number-number.ensures.own c.number-number.ensures.value h.made h.vol run_sends
     _ hub c.args.seat c.leave.result c.in-Ok.ensures.comes c.leave.ensures.added
 

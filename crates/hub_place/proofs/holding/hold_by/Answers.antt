@@ -13,7 +13,7 @@ some-entries-requires g c =
     let number = c.args.number.now.value in
     record {
       some = rw (c.of-asked.ensures, c.of-before.ensures)
-          (noted P.holds c.args.at number c.args.what c.args.now c.hold_on-outcome.result (P.seen c.args.hub.place) (P.seen c.hold_on-outcome.new.place) c.args.hub.port c.of-port.result c.hold_on-outcome.new.port c.into_seat.result
+          (noted P.holds P.room_causes.outgrows_log c.args.at number c.args.what c.args.now c.hold_on-outcome.result (P.seen c.args.hub.place) (P.seen c.hold_on-outcome.new.place) c.args.hub.port c.of-port.result c.hold_on-outcome.new.port c.into_seat.result
           c.of-port.ensures.seat c.into_seat.ensures.seat (c.hold_on-outcome.ensures.holds number));
     }
 

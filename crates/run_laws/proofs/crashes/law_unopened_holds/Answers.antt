@@ -5,4 +5,4 @@ pub returns : goal.returns
 returns g c =
     let p = g.P.Place in
     let m = g.met.P.Place in
-    record { law = unopened_holds p.seen p.vol p.holds p.reads p.left p.clock p.faults p.base p.opens p.refuses p.keeps_vol m.earlier m.holds_one m.opens_read }
+    record { law = unopened_holds p.seen p.vol p.holds p.reads p.left p.clock p.faults p.room_causes p.base p.opens p.refuses p.keeps_vol m.earlier m.holds_one m.opens_read }

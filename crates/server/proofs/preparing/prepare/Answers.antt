@@ -9,4 +9,4 @@ returns-in-Some-clause-prepared g c =
 
 pub returns-in-None-clause-prepared : goal.returns-in-None-clause-prepared
 returns-in-None-clause-prepared g c =
-    unmade (DeskMade g.P.Place.keeps_vol g.P.Place.holds g.P.Place.left g.P.Place.clock g.P.Place.base) (made_none g.P.Place.keeps_vol g.P.Place.holds g.P.Place.left g.P.Place.clock g.P.Place.base g.met.P.Place.keeps_none g.met.P.Place.earlier) _ _ _ c.in-None.is c.requires.opened
+    unmade (DeskMade g.P.Place.keeps_vol g.P.Place.holds g.P.Place.left g.P.Place.clock g.P.Place.base g.P.Place.room_causes.outgrows_log) (made_none g.P.Place.keeps_vol g.P.Place.holds g.P.Place.left g.P.Place.clock g.P.Place.base g.P.Place.room_causes.outgrows_log g.met.P.Place.keeps_none g.met.P.Place.earlier) _ _ _ c.in-None.is c.requires.opened

@@ -1,5 +1,5 @@
 use Rattle.std.proofs.Common.{ap, ◌∙◌, arith, inl, inr}
-use Rattle.link_edge.proofs.Causes.{cause_before}
+use Rattle.js_base.proofs.Causes.{cause_before}
 use Rattle.js_api.specs.Clients.{Client}
 use Rattle.session.specs.Talk.{Stage, IsSpent}
 use Rattle.session.specs.Turning.{stage_of}

@@ -17,7 +17,7 @@ returns-then-is_empty-clause-locked g t c =
 pub lock_place-requires-clause-opened : goal.lock_place-requires-clause-opened
 lock_place-requires-clause-opened g t c =
     let P = g.P.Place in
-    at_last (WasOpened P.seen P.vol P.holds P.reads P.left P.clock P.faults P.base P.opens P.refuses P.keeps_vol) c.args.places.now.items c.take_last.new.self.items c.take_last.result c.take_last.ensures.items c.requires.opened
+    at_last (WasOpened P.seen P.vol P.holds P.reads P.left P.clock P.faults P.room_causes P.base P.opens P.refuses P.keeps_vol) c.args.places.now.items c.take_last.new.self.items c.take_last.result c.take_last.ensures.items c.requires.opened
 
 pub lock_place-requires-clause-new : goal.lock_place-requires-clause-new
 lock_place-requires-clause-new g t c = at_last IsNewPort c.args.ports.now.items c.take_last-2.new.self.items c.take_last-2.result c.take_last-2.ensures.items c.requires.new
@@ -34,7 +34,7 @@ lock_places-requires g t c =
         (
           lives.1,
           (
-            all_but_last (WasOpened P.seen P.vol P.holds P.reads P.left P.clock P.faults P.base P.opens P.refuses P.keeps_vol) c.args.places.now.items c.take_last.new.self.items c.take_last.result c.take_last.ensures.items c.requires.opened,
+            all_but_last (WasOpened P.seen P.vol P.holds P.reads P.left P.clock P.faults P.room_causes P.base P.opens P.refuses P.keeps_vol) c.args.places.now.items c.take_last.new.self.items c.take_last.result c.take_last.ensures.items c.requires.opened,
             (
               all_but_last IsNewPort c.args.ports.now.items c.take_last-2.new.self.items c.take_last-2.result c.take_last-2.ensures.items c.requires.new,
               (
@@ -76,7 +76,7 @@ undo-requires g t c = record { all = dealt_all _ c.args.callers c.in-Ok.dealt.lo
 pub push_reserved-requires-in-Err-lock_places : goal.push_reserved-requires-in-Err-lock_places
 push_reserved-requires-in-Err-lock_places g t c =
     let P = g.P.Place in
-    let long : length c.lock_places.new.places.items ≡ length c.take_last.new.self.items = AllZip-long (ComesBack P.seen P.vol P.holds P.reads P.left P.clock P.faults P.base P.opens P.refuses P.keeps_vol) c.take_last.new.self.items c.lock_places.new.places.items c.in-Err-lock_places.ensures.back in
+    let long : length c.lock_places.new.places.items ≡ length c.take_last.new.self.items = AllZip-long (ComesBack P.seen P.vol P.holds P.reads P.left P.clock P.faults P.room_causes P.base P.opens P.refuses P.keeps_vol) c.take_last.new.self.items c.lock_places.new.places.items c.in-Err-lock_places.ensures.back in
     omega (arith, long, c.lock_places.new.places.ok.0, c.lock_places.ensures.room.0, c.take_last.ensures.len, c.take_last.ensures.capacity, c.take_last.new.self.ok.0, c.args.places.now.ok.1)
 
 pub push_reserved-requires-in-Err-lock_places-2 : goal.push_reserved-requires-in-Err-lock_places-2
@@ -97,10 +97,10 @@ returns-in-Ok-lock_places-clause-dealt g t c =
 pub returns-in-Err-lock_places-clause-back : goal.returns-in-Err-lock_places-clause-back
 returns-in-Err-lock_places-clause-back g t c =
     let P = g.P.Place in
-    zip_last (ComesBack P.seen P.vol P.holds P.reads P.left P.clock P.faults P.base P.opens P.refuses P.keeps_vol) c.args.places.now.items c.take_last.new.self.items c.push_reserved-in-Err-lock_places.new.self.items
+    zip_last (ComesBack P.seen P.vol P.holds P.reads P.left P.clock P.faults P.room_causes P.base P.opens P.refuses P.keeps_vol) c.args.places.now.items c.take_last.new.self.items c.push_reserved-in-Err-lock_places.new.self.items
     c.lock_places.new.places.items c.take_last.result c.into_parts-place.result.0 c.take_last.ensures.items c.push_reserved-in-Err-lock_places.ensures.items c.in-Err-lock_places.ensures.back
     (rw c.into_parts-place.ensures.place
-    (back_again P.seen P.vol P.holds P.reads P.left P.clock P.faults P.base P.opens P.refuses P.keeps_vol c.take_last.result c.undo.result.place c.take_last-2.result c.undo.result.port
+    (back_again P.seen P.vol P.holds P.reads P.left P.clock P.faults P.room_causes P.base P.opens P.refuses P.keeps_vol c.take_last.result c.undo.result.place c.take_last-2.result c.undo.result.port
     (at_last IsNewPort c.args.ports.now.items c.take_last-2.new.self.items c.take_last-2.result c.take_last-2.ensures.items c.requires.new) c.in-Ok.dealt.lock.opening c.in-Ok.ensures.dealt.opens
     (c.undo.ensures.unmade (dealt_unmade _ c.args.callers c.in-Ok.dealt.lock c.in-Ok.dealt.seats.items c.in-Ok.ensures.dealt))))
 
@@ -110,14 +110,14 @@ returns-in-Err-lock_places-clause-ports g t c =
     zip_last IsSameSeat c.args.ports.now.items c.take_last-2.new.self.items c.push_reserved-in-Err-lock_places-2.new.self.items c.lock_places.new.ports.items c.take_last-2.result c.into_parts-place.result.1
     c.take_last-2.ensures.items c.push_reserved-in-Err-lock_places-2.ensures.items c.in-Err-lock_places.ensures.ports
     (rw c.into_parts-place.ensures.port
-    (same_again P.seen P.vol P.holds P.reads P.left P.clock P.faults P.base P.opens P.refuses P.keeps_vol c.take_last.result c.undo.result.place c.take_last-2.result c.undo.result.port
+    (same_again P.seen P.vol P.holds P.reads P.left P.clock P.faults P.room_causes P.base P.opens P.refuses P.keeps_vol c.take_last.result c.undo.result.place c.take_last-2.result c.undo.result.port
     (at_last IsNewPort c.args.ports.now.items c.take_last-2.new.self.items c.take_last-2.result c.take_last-2.ensures.items c.requires.new) c.in-Ok.dealt.lock.opening c.in-Ok.ensures.dealt.opens
     (c.undo.ensures.unmade (dealt_unmade _ c.args.callers c.in-Ok.dealt.lock c.in-Ok.dealt.seats.items c.in-Ok.ensures.dealt))))
 
 pub returns-in-Err-clause-back : goal.returns-in-Err-clause-back
 returns-in-Err-clause-back g t c =
     let P = g.P.Place in
-    as_they_are P.seen P.vol P.holds P.reads P.left P.clock P.faults P.base P.opens P.refuses P.keeps_vol c.args.places.now.items c.push_reserved-in-Err.new.self.items
+    as_they_are P.seen P.vol P.holds P.reads P.left P.clock P.faults P.room_causes P.base P.opens P.refuses P.keeps_vol c.args.places.now.items c.push_reserved-in-Err.new.self.items
     (put_back c.args.places.now.items c.take_last.new.self.items c.push_reserved-in-Err.new.self.items c.take_last.result c.in-Err.place c.take_last.ensures.items c.push_reserved-in-Err.ensures.items c.in-Err.ensures.err.0)
 
 pub returns-in-Err-clause-ports : goal.returns-in-Err-clause-ports

@@ -1,4 +1,4 @@
-use Rattle.std.proofs.Common.{◌≡◌, ◌+◌, ◌≤◌, ◌<◌, ◌∙◌, ℕ, length, sym, subst, arith}
+use Rattle.std.proofs.Common.{◌≡◌, ◌+◌, ◌∙◌, ℕ, length, sym, subst, arith}
 use Rattle.histories.specs.Entries.{OfCatalog, OfRouter}
 use Rattle.shared_desk.specs.Laying.{IsDealt}
 use Rattle.shared_desk.proofs.Dealing.{all_long, all_same, dealt_all, dealt_long, dealt_ports, each_there, rooms_fewer}
@@ -9,37 +9,37 @@ use Rattle.shared_desk.proofs.opening.lay.Goals as goal
 pub returns-in_err-timers-clause-back : goal.returns-in_err-timers-clause-back
 returns-in_err-timers-clause-back g c =
     let P = g.P.Place in
-    λ none. as_they_were P.seen P.vol P.holds P.reads P.left P.clock P.faults P.base P.opens P.refuses P.keeps_vol c.args.places.now.items
+    λ none. as_they_were P.seen P.vol P.holds P.reads P.left P.clock P.faults P.room_causes P.base P.opens P.refuses P.keeps_vol c.args.places.now.items
 
 pub returns-in_err-roused-clause-back : goal.returns-in_err-roused-clause-back
 returns-in_err-roused-clause-back g c =
     let P = g.P.Place in
-    λ none. as_they_were P.seen P.vol P.holds P.reads P.left P.clock P.faults P.base P.opens P.refuses P.keeps_vol c.args.places.now.items
+    λ none. as_they_were P.seen P.vol P.holds P.reads P.left P.clock P.faults P.room_causes P.base P.opens P.refuses P.keeps_vol c.args.places.now.items
 
 pub returns-in_err-noted-clause-back : goal.returns-in_err-noted-clause-back
 returns-in_err-noted-clause-back g c =
     let P = g.P.Place in
-    λ none. as_they_were P.seen P.vol P.holds P.reads P.left P.clock P.faults P.base P.opens P.refuses P.keeps_vol c.args.places.now.items
+    λ none. as_they_were P.seen P.vol P.holds P.reads P.left P.clock P.faults P.room_causes P.base P.opens P.refuses P.keeps_vol c.args.places.now.items
 
 pub returns-in_err-rows-clause-back : goal.returns-in_err-rows-clause-back
 returns-in_err-rows-clause-back g c =
     let P = g.P.Place in
-    λ none. as_they_were P.seen P.vol P.holds P.reads P.left P.clock P.faults P.base P.opens P.refuses P.keeps_vol c.args.places.now.items
+    λ none. as_they_were P.seen P.vol P.holds P.reads P.left P.clock P.faults P.room_causes P.base P.opens P.refuses P.keeps_vol c.args.places.now.items
 
 pub returns-in_default-clause-back : goal.returns-in_default-clause-back
 returns-in_default-clause-back g c =
     let P = g.P.Place in
-    λ none. as_they_were P.seen P.vol P.holds P.reads P.left P.clock P.faults P.base P.opens P.refuses P.keeps_vol c.args.places.now.items
+    λ none. as_they_were P.seen P.vol P.holds P.reads P.left P.clock P.faults P.room_causes P.base P.opens P.refuses P.keeps_vol c.args.places.now.items
 
 pub returns-in_default-with_capacity-clause-back : goal.returns-in_default-with_capacity-clause-back
 returns-in_default-with_capacity-clause-back g c =
     let P = g.P.Place in
-    λ none. as_they_were P.seen P.vol P.holds P.reads P.left P.clock P.faults P.base P.opens P.refuses P.keeps_vol c.args.places.now.items
+    λ none. as_they_were P.seen P.vol P.holds P.reads P.left P.clock P.faults P.room_causes P.base P.opens P.refuses P.keeps_vol c.args.places.now.items
 
 pub returns-in_default-lock_both-clause-back : goal.returns-in_default-lock_both-clause-back
 returns-in_default-lock_both-clause-back g c =
     let P = g.P.Place in
-    λ none. as_they_were P.seen P.vol P.holds P.reads P.left P.clock P.faults P.base P.opens P.refuses P.keeps_vol c.args.places.now.items
+    λ none. as_they_were P.seen P.vol P.holds P.reads P.left P.clock P.faults P.room_causes P.base P.opens P.refuses P.keeps_vol c.args.places.now.items
 
 pub lock_places-requires-clause-new : goal.lock_places-requires-clause-new
 lock_places-requires-clause-new g c = dealt_ports (c.args.callers + c.len-count.result) c.in-Some.router.lock c.in-Some.router.seats.items c.in-Some.ensures.router

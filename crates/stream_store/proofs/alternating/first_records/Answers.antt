@@ -1,5 +1,7 @@
-use Rattle.std.proofs.Common.{◌∙◌, ap}
+use Rattle.std.proofs.Common.{◌≤◌, ◌+◌, ◌++◌, ◌∙◌, ℕ, ap, length, subst, sym}
+use Rattle.js_base.specs.Bytes.{Bytes}
 use Rattle.js_model.specs.Streams.{seqs}
+use Rattle.stream_store.specs.Alternating.{first_batch}
 use Rattle.stream_store.proofs.alternating.first_records.Goals as goal
 
 pub has_spots-requires : goal.has_spots-requires
@@ -11,3 +13,9 @@ write_snapshot-requires c = record {
   storable = c.requires.storable;
   spots = c.has_spots.ensures.value c.if-not-has_spots.false ∙ ap seqs c.messages_of.ensures.value;
 }
+
+pub returns-clause-fits : goal.returns-clause-fits
+returns-clause-fits c =
+    let spots = c.has_spots.ensures.value c.if-not-has_spots.false ∙ ap seqs c.messages_of.ensures.value in
+    let within = c.requires.within c.args.table.now c.older.ensures.table spots in
+    subst (λ (n : ℕ). 30 + n ≤ c.args.bound) (sym (ap (λ (l : Bytes). length l) (c.in_ok-write_snapshot.ensures.ok ∙ ap (λ (l : Bytes). l ++ first_batch c.args.next.now c.args.table.now) c.new-records.ensures.items))) within

@@ -1,10 +1,12 @@
-use Rattle.std.proofs.Common.{◌≡◌, ◌∙◌, ℕ, Some, IfOk, ap, sym, subst}
+use Rattle.std.proofs.Common.{◌≡◌, ◌<◌, ◌∙◌, ℕ, Some, IfOk, ap, length, sym, subst}
 use Rattle.vol_disk.specs.Images.{IsDurable}
+use Rattle.gate_log.specs.LogFile.{HasOpen}
 use Rattle.gate_log.specs.LogState.{LogState, new_log}
 use Rattle.gate_log.specs.Starting.{Starts}
 use Rattle.stream_store.specs.Alternating.{other_file}
-use Rattle.stream_store.proofs.Alternated.{durable_log, other_low}
+use Rattle.stream_store.proofs.Alternated.{durable_log, other_low, some_other_of}
 use Rattle.stream_store.proofs.Alternations.{base_left, started_on}
+use Rattle.stream_store.proofs.Closed.{closed_as_long}
 use Rattle.stream_store.proofs.alternating.start_next.Goals as goal
 
 pub start-requires : goal.start-requires
@@ -13,6 +15,11 @@ start-requires g c =
     let old = g.V.Vol.disk c.args.vol.now in
     let other_is : c.other_file.result ≡ other_file log.file = c.other_file.ensures.value ∙ ap other_file c.file.ensures.value in
     record {
+      long = λ told. subst (λ (n : ℕ). 21 < length (old.seen n)) (sym other_is) (c.requires.room told);
+      whole = λ told.
+          let f = c.requires.base told in
+          let other = some_other_of log f.0 f.1 old f.2 in
+          (other.0.generation, other.0.batches, subst (λ (n : ℕ). HasOpen (old.seen n) other.0.generation other.0.batches) (sym other_is) other.1);
       durable = λ told. let f = c.requires.base told in subst (IsDurable old) (sym other_is) (durable_log log f.0 f.1 old f.2 (other_file log.file) (other_low log.file));
       below = c.requires.below;
     }
@@ -44,3 +51,7 @@ returns-clause-elsewhere g c = λ told file apart.
     let log = c.args.log.now in
     let other_is : c.other_file.result ≡ other_file log.file = c.other_file.ensures.value ∙ ap other_file c.file.ensures.value in
     (c.start.ensures.any_moment told).elsewhere file (λ is. apart (is ∙ other_is))
+
+pub returns-clause-as_long : goal.returns-clause-as_long
+returns-clause-as_long g c = λ told.
+    closed_as_long c.start.result c.other_file.result (g.V.Vol.disk c.args.vol.now) (g.V.Vol.disk c.start.new.vol) (c.start.ensures.any_moment told) (c.start.ensures.as_long told)

@@ -16,6 +16,7 @@ loop-file-preserved g c = record {
       cleared_more c.args.table.now c.loop-file.file (g.V.Vol.disk c.args.vol.now) (g.V.Vol.disk c.loop-file.vol) (g.V.Vol.disk c.clear_file.new.vol) (c.loop-file.invariant.cleared told)
       (c.in_ok-clear_file.ensures.cleared told) (c.clear_file.ensures.spares told) (c.clear_file.ensures.elsewhere told);
   faults = omega (arith, c.loop-file.invariant.faults, c.clear_file.ensures.cause.later);
+  refusals = omega (arith, c.loop-file.invariant.refusals, c.clear_file.ensures.refusals);
   moments = omega (arith, c.loop-file.invariant.moments, c.clear_file.ensures.later);
 }
 

@@ -7,5 +7,6 @@ abbrev pub invariant-loop-file : goal.invariant-loop-file
 invariant-loop-file g l = record {
   cleared : g.V.Vol.told → AreClearedBelow l.table l.file (g.V.Vol.disk l.fn.vol) (g.V.Vol.disk l.vol);
   faults : g.V.Vol.faults l.fn.vol ≤ g.V.Vol.faults l.vol;
+  refusals : g.V.Vol.refusals l.fn.vol ≤ g.V.Vol.refusals l.vol;
   moments : (g.V.Vol.disk l.fn.vol).moment ≤ (g.V.Vol.disk l.vol).moment;
 }

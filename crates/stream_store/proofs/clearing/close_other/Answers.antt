@@ -1,14 +1,15 @@
-use Rattle.std.proofs.Common.{◌≡◌, ◌≤◌, ◌∙◌, ℕ, ap, length, subst, sym}
+use Rattle.std.proofs.Common.{◌≡◌, ◌∙◌, ℕ, None, [], ap, subst, sym}
 use Rattle.vol_disk.specs.Images.{IsDurable}
 use Rattle.vol_disk.specs.Moments.{Quiet}
+use Rattle.gate_log.specs.LogFile.{HasOpen}
 use Rattle.gate_log.specs.Starting.{Starts}
 use Rattle.stream_store.specs.Alternating.{other_file}
 use Rattle.stream_store.proofs.Alternated.{durable_log, other_low}
-use Rattle.stream_store.proofs.Closed.{closed_firm, closed_short}
+use Rattle.stream_store.proofs.Closed.{closed_as_long, closed_firm, closed_shut, shut_of}
 use Rattle.stream_store.proofs.clearing.close_other.Goals as goal
 
-pub clear_log-requires : goal.clear_log-requires
-clear_log-requires g c =
+pub shut-requires : goal.shut-requires
+shut-requires g c =
     let log = c.args.log.now in
     let old = g.V.Vol.disk c.args.vol.now in
     let other_is : c.other_file.result ≡ other_file log.file = c.other_file.ensures.value ∙ ap other_file c.file.ensures.value in
@@ -17,23 +18,29 @@ clear_log-requires g c =
 pub returns-clause-closed : goal.returns-clause-closed
 returns-clause-closed g c = λ told.
     let other_is : c.other_file.result ≡ other_file c.args.log.now.file = c.other_file.ensures.value ∙ ap other_file c.file.ensures.value in
-    closed_short c.clear_log.result c.args.log.now c.other_file.result other_is (g.V.Vol.disk c.clear_log.new.vol) (c.clear_log.ensures.durable told) (c.clear_log.ensures.short told)
+    let f = c.requires.base told in
+    closed_shut c.shut.result c.args.log.now c.other_file.result other_is (g.V.Vol.disk c.shut.new.vol) (c.shut.ensures.durable told)
+    (shut_of c.shut.result c.args.log.now f.0 f.1 (g.V.Vol.disk c.args.vol.now) c.other_file.result other_is (g.V.Vol.disk c.shut.new.vol) f.2 (c.shut.ensures.shut told))
 
 pub returns-clause-durable : goal.returns-clause-durable
 returns-clause-durable g c = λ told.
     let other_is : c.other_file.result ≡ other_file c.args.log.now.file = c.other_file.ensures.value ∙ ap other_file c.file.ensures.value in
-    closed_firm c.clear_log.result c.args.log.now c.other_file.result other_is (g.V.Vol.disk c.clear_log.new.vol) (c.clear_log.ensures.durable told)
+    closed_firm c.shut.result c.args.log.now c.other_file.result other_is (g.V.Vol.disk c.shut.new.vol) (c.shut.ensures.durable told)
 
 pub returns-clause-any_moment : goal.returns-clause-any_moment
 returns-clause-any_moment g c = λ told.
     let old = g.V.Vol.disk c.args.vol.now in
-    let new = g.V.Vol.disk c.clear_log.new.vol in
+    let new = g.V.Vol.disk c.shut.new.vol in
     let other_is : c.other_file.result ≡ other_file c.args.log.now.file = c.other_file.ensures.value ∙ ap other_file c.file.ensures.value in
-    subst (λ (n : ℕ). Starts n old new) other_is (c.clear_log.ensures.any_moment told)
+    subst (λ (n : ℕ). Starts n old new) other_is (c.shut.ensures.any_moment told)
 
 pub returns-clause-quiet : goal.returns-clause-quiet
 returns-clause-quiet g c = λ told.
     let old = g.V.Vol.disk c.args.vol.now in
-    let new = g.V.Vol.disk c.clear_log.new.vol in
+    let new = g.V.Vol.disk c.shut.new.vol in
     let other_is : c.other_file.result ≡ other_file c.args.log.now.file = c.other_file.ensures.value ∙ ap other_file c.file.ensures.value in
-    subst (λ (n : ℕ). length (old.seen n) ≤ 21 → Quiet old new) other_is (c.clear_log.ensures.quiet told)
+    subst (λ (n : ℕ). HasOpen (old.seen n) None [] → Quiet old new) other_is (c.shut.ensures.quiet told)
+
+pub returns-clause-as_long : goal.returns-clause-as_long
+returns-clause-as_long g c = λ told.
+    closed_as_long c.shut.result c.other_file.result (g.V.Vol.disk c.args.vol.now) (g.V.Vol.disk c.shut.new.vol) (c.shut.ensures.any_moment told) (c.shut.ensures.as_long told)

@@ -1,4 +1,4 @@
-use Rattle.stream_store.proofs.Rooms.{law_placing}
+use Rattle.stream_store.proofs.Placings.{law_placing}
 use Rattle.stream_store.proofs.laws.law_placing.Goals as goal
 
 pub returns : goal.returns

@@ -1,6 +1,7 @@
 use Rattle.std.proofs.Common.{refl}
 use Rattle.vol_disk.proofs.Moments.{quiet, quiet_on}
 use Rattle.stream_store.proofs.Untouched.{has_more, no_more}
+use Rattle.stream_store.proofs.Faults.{volume_roomy}
 use Rattle.stream_store.proofs.missing.check_file.Goals as goal
 
 pub returns-in_err-len-clause-quiet : goal.returns-in_err-len-clause-quiet
@@ -34,3 +35,10 @@ returns-clause-quiet g c = λ told.
     let old = g.V.Vol.disk c.args.vol.now in
     let mid = g.V.Vol.disk c.len.new.self in
     quiet_on old mid (g.V.Vol.disk c.sync.new.self) c.args.file (quiet_on old old mid c.args.file (quiet old (g.met.V.Vol.clocked c.args.vol.now)) (c.len.ensures.does told) (c.len.ensures.seen told)) (c.sync.ensures.does told) (c.sync.ensures.seen told)
+
+-- it is not told for want of room
+pub returns-in_err-len-clause-no_room : goal.returns-in_err-len-clause-no_room
+returns-in_err-len-clause-no_room g c = volume_roomy c.from_residual.result c.from_residual.ensures.1
+
+pub returns-in_err-sync-clause-no_room : goal.returns-in_err-sync-clause-no_room
+returns-in_err-sync-clause-no_room g c = volume_roomy c.from_residual-in_err-sync.result c.from_residual-in_err-sync.ensures.1

@@ -14,6 +14,7 @@ use Rattle.stream_store.specs.Reading.{IsReadOf}
 use Rattle.stream_store.specs.declared.reading.Found.{Found}
 use Rattle.stream_store.proofs.Finding.{blocks_back, blocks_told}
 use Rattle.stream_store.proofs.Messages.{formed_found, placed_found, storable_found, stored_found}
+use Rattle.stream_store.proofs.Faults.{messages_roomy, volume_roomy}
 use Rattle.stream_store.proofs.reading.read_blocks.Goals as goal
 
 pub read_messages-requires : goal.read_messages-requires
@@ -100,3 +101,11 @@ returns-in_err-messages-clause-fault g c = λ told.
 pub returns-in_err-messages-clause-quiet : goal.returns-in_err-messages-clause-quiet
 returns-in_err-messages-clause-quiet g c = λ told.
     quiet_then (g.V.Vol.disk c.args.vol.now) (g.V.Vol.disk c.sync_blocks.new.vol) (g.V.Vol.disk c.read_messages.new.vol) (c.sync_blocks.ensures.quiet told) (c.read_messages.ensures.quiet told)
+
+-- no fault is told for want of room
+
+pub returns-in_err-sync_blocks-clause-no_room : goal.returns-in_err-sync_blocks-clause-no_room
+returns-in_err-sync_blocks-clause-no_room g c = volume_roomy c.from_residual.result c.from_residual.ensures.1
+
+pub returns-in_err-messages-clause-no_room : goal.returns-in_err-messages-clause-no_room
+returns-in_err-messages-clause-no_room g c = messages_roomy c.from_residual-in_err-messages.result c.in_err-messages.field-0.0 c.from_residual-in_err-messages.ensures.1

@@ -8,9 +8,10 @@ use Rattle.log_records.specs.Logged.{IsLogged}
 use Rattle.log_records.specs.declared.fault.ReadFault.{ReadFault}
 use Rattle.stream_store.specs.Finding.{IsRecordsFault}
 use Rattle.stream_store.specs.declared.fault.OpenFault.{OpenFault}
-use Rattle.stream_store.specs.declared.fault.OpenFault.TheVariants.{Fault}
+use Rattle.stream_store.specs.declared.fault.OpenFault.TheVariants.{Fault, NoRoom}
 use Rattle.stream_store.proofs.Finding.{bad_blocks, blocks_back, read_cause, read_fault_of, stored_back, told_as}
 use Rattle.stream_store.proofs.Messages.{found_last, logged_found, not_openable}
+use Rattle.stream_store.proofs.Faults.{memory_roomy, never_told, records_roomy}
 use Rattle.stream_store.proofs.reading.read_current.Goals as goal
 
 pub returns-in-Err-clause-fault : goal.returns-in-Err-clause-fault
@@ -76,3 +77,16 @@ returns-else-branch-clause-fault g c = λ told.
     let f = c.in_ok-found.found in
     not_openable c.args.current.now.file c.args.current.now.log old c.in-Ok.read f c.in-Ok.ensures.logged c.in_ok-found.ensures.read (c.in-Ok.ensures.gives told)
     (stored_back old mid f (c.read_log.ensures.quiet told) (c.in_ok-found.ensures.stored told)) (λ can. true≢false (sym (c.in_ok-is_openable.ensures.value.1 can) ∙ c.if-branch.false))
+
+-- ---- no fault is told for want of room
+
+pub returns-in-Err-clause-no_room : goal.returns-in-Err-clause-no_room
+returns-in-Err-clause-no_room g c = λ is.
+    records_roomy c.args.current.now.file c.in-Err.fault c.of_records.result c.of_records.ensures.value (told_as _ c.of_records.result NoRoom refl is)
+
+pub returns-in_err-found-clause-no_room : goal.returns-in_err-found-clause-no_room
+returns-in_err-found-clause-no_room g c =
+    never_told c.from_residual.result (Err c.in_err-found.field-0.0) c.in_err-found.field-0.0 NoRoom c.from_residual.ensures.1 refl c.in_err-found.ensures.no_room
+
+pub returns-in_err-is_openable-clause-no_room : goal.returns-in_err-is_openable-clause-no_room
+returns-in_err-is_openable-clause-no_room g c = memory_roomy c.from_residual-in_err-is_openable.result c.from_residual-in_err-is_openable.ensures.1

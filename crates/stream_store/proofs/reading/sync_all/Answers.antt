@@ -8,6 +8,7 @@ loop-block-init g c = record {
   synced = λ told file is. synced_none (g.V.Vol.disk c.args.vol.now) file is;
   quiet = λ told. quiet (g.V.Vol.disk c.args.vol.now) (g.met.V.Vol.clocked c.args.vol.now);
   faults = omega arith;
+  refusals = omega arith;
   moments = omega arith;
 }
 
@@ -23,6 +24,7 @@ loop-block-preserved g c =
           (c.loop-block.invariant.synced told) (c.sync.ensures.does told) (c.sync.ensures.seen told) (c.in_ok-sync.ensures.durable told);
       quiet = still;
       faults = omega (arith, c.loop-block.invariant.faults, c.sync.ensures.cause.later);
+      refusals = omega (arith, c.loop-block.invariant.refusals, c.sync.ensures.refusals);
       moments = omega (arith, c.loop-block.invariant.moments, c.sync.ensures.later);
     }
 

@@ -10,5 +10,6 @@ invariant-loop-block g l = record {
   synced : g.V.Vol.told → (file : ℕ) → is_among (take l.block-index l.blocks) file ≡ true → IsDurable (g.V.Vol.disk l.vol) file;
   quiet : g.V.Vol.told → Quiet (g.V.Vol.disk l.fn.vol) (g.V.Vol.disk l.vol);
   faults : g.V.Vol.faults l.fn.vol ≤ g.V.Vol.faults l.vol;
+  refusals : g.V.Vol.refusals l.fn.vol ≤ g.V.Vol.refusals l.vol;
   moments : (g.V.Vol.disk l.fn.vol).moment ≤ (g.V.Vol.disk l.vol).moment;
 }

@@ -1,7 +1,7 @@
 use Rattle.std.proofs.Common.{◌≡◌, Some, None, cond, subst, sym}
 use Rattle.effects.specs.declared.effect.Effect.{Effect}
 use Rattle.stream_store.specs.Placing.{placing_then}
-use Rattle.stream_store.proofs.Rooms.{placed_message}
+use Rattle.stream_store.proofs.Placings.{placed_message}
 use Rattle.stream_store.proofs.room.place_effect.Goals as goal
 
 pub returns-in-PutHere : goal.returns-in-PutHere

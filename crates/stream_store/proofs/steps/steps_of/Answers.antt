@@ -1,4 +1,6 @@
-use Rattle.std.proofs.Common.{arith}
+use Rattle.std.proofs.Common.{◌∙◌, ◌++◌, ◌∷◌, [], List, ap, arith}
+use Rattle.stream_store.specs.declared.steps.Step.{Step}
+use Rattle.stream_store.specs.declared.steps.Step.TheVariants as step
 use Rattle.stream_store.proofs.Taken.{all_steps, step_added}
 use Rattle.stream_store.proofs.steps.steps_of.Goals as goal
 
@@ -10,4 +12,7 @@ loop-effect-preserved c = record {
 }
 
 pub returns : goal.returns
-returns c = record { value = all_steps c.loop-effect.steps.items c.args.effects.now c.loop-effect.effect-index c.args.spots.now c.loop-effect.used (omega arith) c.loop-effect.invariant.steps }
+returns c = record {
+  value = c.in_ok-push.ensures.items
+      ∙ ap (λ (l : List Step). l ++ step.Close ∷ []) (all_steps c.loop-effect.steps.items c.args.effects.now c.loop-effect.effect-index c.args.spots.now c.loop-effect.used (omega arith) c.loop-effect.invariant.steps);
+}

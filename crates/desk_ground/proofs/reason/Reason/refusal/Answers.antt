@@ -8,8 +8,5 @@ returns-in-NoStream-clause-text c = refusal_utf8 reasons.NoStream _ c.no_stream.
 pub returns-in-StoreFault-clause-text : goal.returns-in-StoreFault-clause-text
 returns-in-StoreFault-clause-text c = refusal_utf8 reasons.StoreFault _ c.store_fault.ensures.value
 
-pub returns-in-LogFull-clause-text : goal.returns-in-LogFull-clause-text
-returns-in-LogFull-clause-text c = refusal_utf8 reasons.LogFull _ c.log_full.ensures.value
-
 pub returns-in-StreamStopped-clause-text : goal.returns-in-StreamStopped-clause-text
 returns-in-StreamStopped-clause-text c = refusal_utf8 reasons.StreamStopped _ c.stream_stopped.ensures.value

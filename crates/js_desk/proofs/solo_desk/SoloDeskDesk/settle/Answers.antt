@@ -6,4 +6,4 @@ pub invariant_of-self : goal.invariant_of-self
 invariant_of-self g c = kept_consistent _ c.self.inside.ground c.settle.new.ground c.self.inside.caller c.self.inside.caller _ _ c.self.invariant c.settle.ensures.setting c.settle.ensures.phase c.settle.ensures.made.led.1 refl refl
 
 pub returns-clause-made : goal.returns-clause-made
-returns-clause-made g c = rw (← c.self.view_is) (desk_made _ _ _ _ _ _ _ _ _ _ c.settle.ensures.made)
+returns-clause-made g c = rw (← c.self.view_is) (desk_made _ _ _ _ _ g.P.Place.room_causes.outgrows_log _ _ _ _ _ c.settle.ensures.made)

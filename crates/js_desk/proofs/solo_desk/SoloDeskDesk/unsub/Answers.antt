@@ -6,4 +6,4 @@ pub invariant_of-self : goal.invariant_of-self
 invariant_of-self g c = kept_consistent _ c.self.inside.ground c.unsub.new.ground c.self.inside.caller c.self.inside.caller _ _ c.self.invariant c.unsub.ensures.setting (c.unsub.ensures.phase ∙ c.self.invariant.outside) c.unsub.ensures.made.led.1 refl refl
 
 pub returns-clause-made : goal.returns-clause-made
-returns-clause-made g c = rw (← c.self.view_is) (desk_made _ _ _ _ _ _ _ _ _ _ c.unsub.ensures.made)
+returns-clause-made g c = rw (← c.self.view_is) (desk_made _ _ _ _ _ g.P.Place.room_causes.outgrows_log _ _ _ _ _ c.unsub.ensures.made)

@@ -9,7 +9,7 @@ pub invariant_of-self : goal.invariant_of-self
 invariant_of-self g c = added_grounded _ _ _ _ _ c.self.invariant _ _ c.add_named.result (rw (← c.self.view_is) at c.requires.turn) c.add_named.ensures.added c.add_named.ensures.err
 
 pub returns-clause-made : goal.returns-clause-made
-returns-clause-made g c = rw (← c.self.view_is) (looked _ g.met.P.Place.keeps_none _ _ _ _ g.met.P.Place.earlier _ _ _ _ _ _ _ c.self.inside.turn c.self.inside.turn true (catalog.Add c.args.name.now c.args.subjects.now) (add_told c.add_named.result) c.add_named.ensures.added)
+returns-clause-made g c = rw (← c.self.view_is) (looked _ g.met.P.Place.keeps_none _ _ _ _ g.P.Place.room_causes.outgrows_log g.met.P.Place.earlier _ _ _ _ _ _ _ c.self.inside.turn c.self.inside.turn true (catalog.Add c.args.name.now c.args.subjects.now) (add_told c.add_named.result) c.add_named.ensures.added)
 
 pub returns-clause-within : goal.returns-clause-within
 returns-clause-within g c = added_within _ _ _ _ _ c.self.invariant _ _ c.add_named.result _ c.add_named.ensures.added c.self.invariant.same

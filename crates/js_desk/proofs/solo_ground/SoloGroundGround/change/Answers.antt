@@ -12,7 +12,7 @@ pub invariant_of-self : goal.invariant_of-self
 invariant_of-self g c = rw c.after_change-self-inside.ensures.value (change_grounded _ _ _ _ _ c.self.invariant c.args.at.place _ c.change-changed.result (rw (← c.self.view_is) at c.requires.turn) c.change-changed.ensures.changed c.change-changed.ensures.err)
 
 pub returns-clause-made : goal.returns-clause-made
-returns-clause-made g c = rw (← c.self.view_is) (looked _ g.met.P.Place.keeps_none _ _ _ _ g.met.P.Place.earlier _ _ _ _ _ _ _ c.self.inside.turn c.after_change-self-inside.result true (catalog.Change c.args.at.place c.args.subjects.now) (change_told c.change-changed.result) c.change-changed.ensures.changed)
+returns-clause-made g c = rw (← c.self.view_is) (looked _ g.met.P.Place.keeps_none _ _ _ _ g.P.Place.room_causes.outgrows_log g.met.P.Place.earlier _ _ _ _ _ _ _ c.self.inside.turn c.after_change-self-inside.result true (catalog.Change c.args.at.place c.args.subjects.now) (change_told c.change-changed.result) c.change-changed.ensures.changed)
 
 pub returns-clause-between : goal.returns-clause-between
 returns-clause-between g c = change_between _ _ _ _ _ c.self.invariant c.args.at _ c.change-changed.result c.change-changed.ensures.changed (rw (← c.self.view_is) at c.requires.known)

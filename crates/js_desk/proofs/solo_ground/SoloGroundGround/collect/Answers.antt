@@ -4,7 +4,7 @@ use Rattle.js_desk.proofs.Routed.{collect_leaves, collected_so, same_setting}
 use Rattle.js_desk.proofs.solo_ground.SoloGroundGround.collect.Goals as goal
 
 pub returns-clause-made : goal.returns-clause-made
-returns-clause-made g c = rw c.desk_answer.ensures.value (rw (← c.self.view_is) (collected_so _ g.met.P.Place.keeps_none _ _ _ _ g.met.P.Place.earlier c.self.inside.router c.collect.new.self c.self.inside.catalog (places_by g.P.Place.seen c.self.inside.places.items) (map g.P.Place.vol c.self.inside.places.items) c.self.inside.ticked c.self.inside.last c.self.inside.turn c.args.session c.args.max c.collect.result (rw (← c.self.view_is) at c.requires.open) c.collect.ensures.routes))
+returns-clause-made g c = rw c.desk_answer.ensures.value (rw (← c.self.view_is) (collected_so _ g.met.P.Place.keeps_none _ _ _ _ g.P.Place.room_causes.outgrows_log g.met.P.Place.earlier c.self.inside.router c.collect.new.self c.self.inside.catalog (places_by g.P.Place.seen c.self.inside.places.items) (map g.P.Place.vol c.self.inside.places.items) c.self.inside.ticked c.self.inside.last c.self.inside.turn c.args.session c.args.max c.collect.result (rw (← c.self.view_is) at c.requires.open) c.collect.ensures.routes))
 
 pub returns-clause-left : goal.returns-clause-left
 returns-clause-left g c = rw (c.desk_answer.ensures.value, ← c.self.view_is) (collect_leaves c.collect.result _ _ c.collect.ensures.left)

@@ -12,4 +12,4 @@ pub returns-clause-made : goal.returns-clause-made
 returns-clause-made g c =
     let P = g.P.Place in
     let row = c.self.inside.places.items in
-    rw (← c.self.view_is) (refl, kept_none P.keeps_vol g.met.P.Place.keeps_none (map P.vol row), outlast_none P.holds P.left P.clock P.base g.met.P.Place.earlier (record { places = places_by P.seen row; vols = map P.vol row }))
+    rw (← c.self.view_is) (refl, kept_none P.keeps_vol g.met.P.Place.keeps_none (map P.vol row), outlast_none P.holds P.left P.clock P.base g.met.P.Place.earlier (record { places = places_by P.seen row; vols = map P.vol row }), tt)

@@ -5,7 +5,7 @@ use Rattle.js_desk.proofs.Looked.{looked_up}
 use Rattle.js_desk.proofs.solo_ground.SoloGroundGround.find.Goals as goal
 
 pub returns-clause-made : goal.returns-clause-made
-returns-clause-made g c = rw (← c.self.view_is) (looked_up _ g.met.P.Place.keeps_none _ _ _ _ g.met.P.Place.earlier _ _ _ _ _ _ _ (catalog.Find c.args.subject.now) c.find.result (inl c.find.ensures.found))
+returns-clause-made g c = rw (← c.self.view_is) (looked_up _ g.met.P.Place.keeps_none _ _ _ _ g.P.Place.room_causes.outgrows_log g.met.P.Place.earlier _ _ _ _ _ _ _ (catalog.Find c.args.subject.now) c.find.result (inl c.find.ensures.found))
 
 pub returns-clause-within : goal.returns-clause-within
 returns-clause-within g c = rw (← c.self.view_is) (find_within c.self.inside.catalog c.args.subject.now c.find.result _ c.find.ensures.found c.self.invariant.same)

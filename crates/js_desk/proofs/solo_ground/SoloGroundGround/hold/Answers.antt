@@ -18,7 +18,7 @@ invariant_of-self g c =
     let stands : slice_get places c.args.at.place ≡ Some (P.seen c.index_mut-place.result.now).place = map_get (λ p. (P.seen p).place) row c.args.at.place c.index_mut-place.result.now there in
     let old = P.seen c.index_mut-place.result.now in let new = P.seen c.hold_on-outcome.new.place in
     let h = c.hold_on-outcome.ensures.holds 0 in
-    let facts = facts_of P.keeps_vol g.met.P.Place.keeps_none P.left P.clock P.base g.met.P.Place.earlier c.self.inside.router c.hold_on-outcome.new.port c.self.inside.catalog places (map P.vol row) c.self.inside.ticked c.self.inside.last c.self.inside.turn c.args.at P.holds old new stands c.args.what c.args.now c.hold_on-outcome.result h in
+    let facts = facts_of P.keeps_vol g.met.P.Place.keeps_none P.left P.clock P.base P.room_causes.outgrows_log g.met.P.Place.earlier c.self.inside.router c.hold_on-outcome.new.port c.self.inside.catalog places (map P.vol row) c.self.inside.ticked c.self.inside.last c.self.inside.turn c.args.at P.holds old new stands c.args.what c.args.now c.hold_on-outcome.result h in
     let mapped : places_by P.seen (slice_set row c.args.at.place c.hold_on-outcome.new.place) ≡ slice_set places c.args.at.place new.place = map_set (λ p. (P.seen p).place) row c.args.at.place c.hold_on-outcome.new.place in
     rw mapped
     (held_after c.self.inside.catalog places c.self.inside.last c.self.inside.turn c.args.at old.place new.place stands c.self.invariant c.args.what c.hold_on-outcome.result.became h.entries (rw (← c.self.view_is) at c.requires.turn) facts
@@ -33,13 +33,13 @@ returns-clause-made g c =
     let stands : slice_get places c.args.at.place ≡ Some (P.seen c.index_mut-place.result.now).place = map_get (λ p. (P.seen p).place) row c.args.at.place c.index_mut-place.result.now there in
     let old = P.seen c.index_mut-place.result.now in let new = P.seen c.hold_on-outcome.new.place in
     let h = c.hold_on-outcome.ensures.holds 0 in
-    let facts = facts_of P.keeps_vol g.met.P.Place.keeps_none P.left P.clock P.base g.met.P.Place.earlier c.self.inside.router c.hold_on-outcome.new.port c.self.inside.catalog places (map P.vol row) c.self.inside.ticked c.self.inside.last c.self.inside.turn c.args.at P.holds old new stands c.args.what c.args.now c.hold_on-outcome.result h in
+    let facts = facts_of P.keeps_vol g.met.P.Place.keeps_none P.left P.clock P.base P.room_causes.outgrows_log g.met.P.Place.earlier c.self.inside.router c.hold_on-outcome.new.port c.self.inside.catalog places (map P.vol row) c.self.inside.ticked c.self.inside.last c.self.inside.turn c.args.at P.holds old new stands c.args.what c.args.now c.hold_on-outcome.result h in
     let mapped : places_by P.seen (slice_set row c.args.at.place c.hold_on-outcome.new.place) ≡ slice_set places c.args.at.place new.place = map_set (λ p. (P.seen p).place) row c.args.at.place c.hold_on-outcome.new.place in
-    let lasts = held_outlasts P.seen P.vol P.holds P.reads P.left P.clock P.faults P.base g.met.P.Place.bases g.met.P.Place.leaves g.met.P.Place.stands c.index_mut-place.result.now c.hold_on-outcome.new.place
+    let lasts = held_outlasts P.seen P.vol P.holds P.reads P.left P.clock P.faults P.room_causes P.base g.met.P.Place.bases g.met.P.Place.leaves g.met.P.Place.stands c.index_mut-place.result.now c.hold_on-outcome.new.place
     c.law_kept.ensures.kept c.args.at c.self.inside.router c.hold_on-outcome.new.port c.args.what c.args.now c.hold_on-outcome.result h in
     rw (← c.self.view_is)
     (rw (mapped, map_set P.vol row c.args.at.place c.hold_on-outcome.new.place)
-    (made_of P.keeps_vol g.met.P.Place.keeps_none P.left P.clock P.base g.met.P.Place.earlier c.self.inside.router c.hold_on-outcome.new.port c.self.inside.catalog places (map P.vol row) c.self.inside.ticked c.self.inside.last c.self.inside.turn c.args.at P.holds old new stands c.args.what c.args.now c.hold_on-outcome.result h
+    (made_of P.keeps_vol g.met.P.Place.keeps_none P.left P.clock P.base P.room_causes.outgrows_log g.met.P.Place.earlier c.self.inside.router c.hold_on-outcome.new.port c.self.inside.catalog places (map P.vol row) c.self.inside.ticked c.self.inside.last c.self.inside.turn c.args.at P.holds old new stands c.args.what c.args.now c.hold_on-outcome.result h
     c.last_of-self-inside.result c.after_hold-self-inside.result (P.vol c.index_mut-place.result.now) (P.vol c.hold_on-outcome.new.place) c.last_of-self-inside.ensures.value
     (map_get P.vol row c.args.at.place c.index_mut-place.result.now there) c.hold_on-outcome.ensures.vol lasts))
 
@@ -52,7 +52,7 @@ returns-clause-there g c =
     let stands : slice_get places c.args.at.place ≡ Some (P.seen c.index_mut-place.result.now).place = map_get (λ p. (P.seen p).place) row c.args.at.place c.index_mut-place.result.now there in
     let old = P.seen c.index_mut-place.result.now in let new = P.seen c.hold_on-outcome.new.place in
     let h = c.hold_on-outcome.ensures.holds 0 in
-    let facts = facts_of P.keeps_vol g.met.P.Place.keeps_none P.left P.clock P.base g.met.P.Place.earlier c.self.inside.router c.hold_on-outcome.new.port c.self.inside.catalog places (map P.vol row) c.self.inside.ticked c.self.inside.last c.self.inside.turn c.args.at P.holds old new stands c.args.what c.args.now c.hold_on-outcome.result h in
+    let facts = facts_of P.keeps_vol g.met.P.Place.keeps_none P.left P.clock P.base P.room_causes.outgrows_log g.met.P.Place.earlier c.self.inside.router c.hold_on-outcome.new.port c.self.inside.catalog places (map P.vol row) c.self.inside.ticked c.self.inside.last c.self.inside.turn c.args.at P.holds old new stands c.args.what c.args.now c.hold_on-outcome.result h in
     let mapped : places_by P.seen (slice_set row c.args.at.place c.hold_on-outcome.new.place) ≡ slice_set places c.args.at.place new.place = map_set (λ p. (P.seen p).place) row c.args.at.place c.hold_on-outcome.new.place in
     rw (← c.self.view_is)
     (λ alone. there_held c.self.inside.catalog places c.self.inside.last c.self.inside.turn c.args.at old.place new.place stands c.self.invariant c.args.what c.hold_on-outcome.result.became h.entries (rw (← c.self.view_is) at c.requires.turn) facts)
@@ -66,7 +66,7 @@ returns-clause-setting g c =
     let stands : slice_get places c.args.at.place ≡ Some (P.seen c.index_mut-place.result.now).place = map_get (λ p. (P.seen p).place) row c.args.at.place c.index_mut-place.result.now there in
     let old = P.seen c.index_mut-place.result.now in let new = P.seen c.hold_on-outcome.new.place in
     let h = c.hold_on-outcome.ensures.holds 0 in
-    let facts = facts_of P.keeps_vol g.met.P.Place.keeps_none P.left P.clock P.base g.met.P.Place.earlier c.self.inside.router c.hold_on-outcome.new.port c.self.inside.catalog places (map P.vol row) c.self.inside.ticked c.self.inside.last c.self.inside.turn c.args.at P.holds old new stands c.args.what c.args.now c.hold_on-outcome.result h in
+    let facts = facts_of P.keeps_vol g.met.P.Place.keeps_none P.left P.clock P.base P.room_causes.outgrows_log g.met.P.Place.earlier c.self.inside.router c.hold_on-outcome.new.port c.self.inside.catalog places (map P.vol row) c.self.inside.ticked c.self.inside.last c.self.inside.turn c.args.at P.holds old new stands c.args.what c.args.now c.hold_on-outcome.result h in
     let mapped : places_by P.seen (slice_set row c.args.at.place c.hold_on-outcome.new.place) ≡ slice_set places c.args.at.place new.place = map_set (λ p. (P.seen p).place) row c.args.at.place c.hold_on-outcome.new.place in
     rw (← c.self.view_is)
     (held_setting c.self.inside.router c.hold_on-outcome.new.port c.self.inside.catalog places (places_by P.seen (slice_set row c.args.at.place c.hold_on-outcome.new.place)) (map P.vol row) (map P.vol (slice_set row c.args.at.place c.hold_on-outcome.new.place)) c.self.inside.ticked c.self.inside.last c.last_of-self-inside.result
@@ -81,7 +81,7 @@ returns-clause-phase g c =
     let stands : slice_get places c.args.at.place ≡ Some (P.seen c.index_mut-place.result.now).place = map_get (λ p. (P.seen p).place) row c.args.at.place c.index_mut-place.result.now there in
     let old = P.seen c.index_mut-place.result.now in let new = P.seen c.hold_on-outcome.new.place in
     let h = c.hold_on-outcome.ensures.holds 0 in
-    let facts = facts_of P.keeps_vol g.met.P.Place.keeps_none P.left P.clock P.base g.met.P.Place.earlier c.self.inside.router c.hold_on-outcome.new.port c.self.inside.catalog places (map P.vol row) c.self.inside.ticked c.self.inside.last c.self.inside.turn c.args.at P.holds old new stands c.args.what c.args.now c.hold_on-outcome.result h in
+    let facts = facts_of P.keeps_vol g.met.P.Place.keeps_none P.left P.clock P.base P.room_causes.outgrows_log g.met.P.Place.earlier c.self.inside.router c.hold_on-outcome.new.port c.self.inside.catalog places (map P.vol row) c.self.inside.ticked c.self.inside.last c.self.inside.turn c.args.at P.holds old new stands c.args.what c.args.now c.hold_on-outcome.result h in
     let mapped : places_by P.seen (slice_set row c.args.at.place c.hold_on-outcome.new.place) ≡ slice_set places c.args.at.place new.place = map_set (λ p. (P.seen p).place) row c.args.at.place c.hold_on-outcome.new.place in
     rw (← c.self.view_is)
     (phase_after_held c.self.inside.catalog places c.self.inside.last c.self.inside.turn c.args.at old.place new.place stands c.self.invariant c.args.what c.hold_on-outcome.result.became h.entries (rw (← c.self.view_is) at c.requires.turn) facts

@@ -4,7 +4,7 @@ use Rattle.js_desk.proofs.Routed.{same_setting, subscribed_so}
 use Rattle.js_desk.proofs.solo_ground.SoloGroundGround.sub.Goals as goal
 
 pub returns-clause-made : goal.returns-clause-made
-returns-clause-made g c = rw c.desk_answer.ensures.value (rw (← c.self.view_is) (subscribed_so _ g.met.P.Place.keeps_none _ _ _ _ g.met.P.Place.earlier c.self.inside.router c.sub.new.self c.self.inside.catalog (places_by g.P.Place.seen c.self.inside.places.items) (map g.P.Place.vol c.self.inside.places.items) c.self.inside.ticked c.self.inside.last c.self.inside.turn c.args.session c.args.subject.now _ c.args.sid.now c.sub.result (rw (← c.self.view_is) at c.requires.open) c.sub.ensures.routes))
+returns-clause-made g c = rw c.desk_answer.ensures.value (rw (← c.self.view_is) (subscribed_so _ g.met.P.Place.keeps_none _ _ _ _ g.P.Place.room_causes.outgrows_log g.met.P.Place.earlier c.self.inside.router c.sub.new.self c.self.inside.catalog (places_by g.P.Place.seen c.self.inside.places.items) (map g.P.Place.vol c.self.inside.places.items) c.self.inside.ticked c.self.inside.last c.self.inside.turn c.args.session c.args.subject.now _ c.args.sid.now c.sub.result (rw (← c.self.view_is) at c.requires.open) c.sub.ensures.routes))
 
 pub returns-clause-setting : goal.returns-clause-setting
 returns-clause-setting g c = rw (← c.self.view_is) (same_setting c.self.inside.router c.sub.new.self c.self.inside.catalog (places_by g.P.Place.seen c.self.inside.places.items) (map g.P.Place.vol c.self.inside.places.items) c.self.inside.ticked c.self.inside.last c.self.inside.turn c.sub.ensures.stay)

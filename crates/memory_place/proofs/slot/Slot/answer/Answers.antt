@@ -1,3 +1,4 @@
+use Rattle.std.proofs.Common.{true}
 use Rattle.memory_place.proofs.Passing.{answers_after, left_behind}
 use Rattle.memory_place.proofs.RecordedPlaces.{event_told, left_told, room_then}
 use Rattle.memory_place.proofs.slot.Slot.answer.Goals as goal
@@ -7,12 +8,12 @@ answer_then-requires-clause-room c = room_then c.args.self.now c.pass.new.self c
 
 pub returns-in-Ok-answer_then-clause-answers : goal.returns-in-Ok-answer_then-clause-answers
 returns-in-Ok-answer_then-clause-answers c =
-    answers_after c.args.self.now c.pass.new.self c.args.what.now c.args.now c.in-Ok-answer_then.reply c.args.outs.now c.pass.new.outs c.answer_then.new.outs c.answer_then.new.self
+    answers_after true c.args.self.now c.pass.new.self c.args.what.now c.args.now c.in-Ok-answer_then.reply c.args.outs.now c.pass.new.outs c.answer_then.new.outs c.answer_then.new.self
     c.in-Ok-pass.ensures.passed c.in-Ok-pass.ensures.outs c.in-Ok-answer_then.ensures.answers
 
 pub returns-in-Ok-answer_then-clause-recorded : goal.returns-in-Ok-answer_then-clause-recorded
 returns-in-Ok-answer_then-clause-recorded c =
-    event_told c.args.self.now c.pass.new.self c.args.what.now c.args.now _ _ c.in-Ok-pass.ensures.passed c.in-Ok-pass.ensures.recorded c.in-Ok-answer_then.ensures.recorded
+    event_told true c.args.self.now c.pass.new.self c.args.what.now c.args.now _ _ c.in-Ok-pass.ensures.passed c.in-Ok-pass.ensures.recorded c.in-Ok-answer_then.ensures.recorded
 
 pub returns-in-Err-clause-err : goal.returns-in-Err-clause-err
 returns-in-Err-clause-err c =

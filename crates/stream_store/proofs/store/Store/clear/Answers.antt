@@ -1,16 +1,18 @@
-use Rattle.std.proofs.Common.{◌≤◌, ap, length, subst, sym, ◌∙◌}
+use Rattle.std.proofs.Common.{None, [], ap, subst, sym, ◌∙◌}
 use Rattle.vol_disk.specs.Images.{IsDurable}
 use Rattle.vol_disk.specs.Moments.{Quiet}
 use Rattle.gate_log.specs.Starting.{Starts}
 use Rattle.block_table.specs.Blocks.{Blocks}
 use Rattle.stream_store.specs.Alternating.{other_file}
-use Rattle.stream_store.specs.Base.{IsBase}
+use Rattle.gate_log.specs.LogFile.{HasOpen}
+use Rattle.stream_store.specs.Base.{IsBase, IsBaseOf}
 use Rattle.stream_store.specs.Clearing.{AreCleared, IsOtherClosed, IsUsed, IsUsedBy, Spares}
 use Rattle.stream_store.specs.Steps.{blocks_in}
 use Rattle.stream_store.specs.StoreState.{StoreState}
 use Rattle.stream_store.proofs.Alternated.{other_low}
 use Rattle.stream_store.proofs.Cleared.{cleared_behind, leaves_base, spares_none}
 use Rattle.stream_store.proofs.Closed.{both_base, both_leaves, closed_spared, closing_leaves, spares_both, spares_closed}
+use Rattle.stream_store.proofs.Known.{rooms_cleared}
 use Rattle.stream_store.proofs.store.Store.clear.Goals as goal
 
 -- ---- no memory
@@ -27,7 +29,7 @@ returns-in_err-catch_up-clause-any_moment g c = λ told base is.
 
 pub close_other-requires : goal.close_other-requires
 close_other-requires g c = record {
-  base = λ told. let f = c.requires.base told in (blocks_in c.self.inside.late, f.0, subst (λ (t : StoreState). IsBase t f.0 (g.V.Vol.disk c.args.vol.now)) (sym c.self.view_is) f.1);
+  base = λ told. let f = c.requires.base told in (blocks_in c.self.inside.late, f.0, subst (λ (t : StoreState). IsBaseOf t.log t.blocks f.0 (g.V.Vol.disk c.args.vol.now)) (sym c.self.view_is) f.1.of_log);
 }
 
 pub returns-in_err-close_other-clause-spares : goal.returns-in_err-close_other-clause-spares
@@ -37,8 +39,8 @@ returns-in_err-close_other-clause-spares g c = λ told.
     let old = g.V.Vol.disk c.args.vol.now in
     let mid = g.V.Vol.disk c.close_other.new.vol in
     let s : Starts (other_file store.log.file) old mid = subst (λ (t : StoreState). Starts (other_file t.log.file) old mid) c.self.view_is (c.close_other.ensures.any_moment told) in
-    let still = subst (λ (t : StoreState). length (old.seen (other_file t.log.file)) ≤ 21 → Quiet old mid) c.self.view_is (c.close_other.ensures.quiet told) in
-    spares_closed store f.0 old f.1 mid s still
+    let still = subst (λ (t : StoreState). HasOpen (old.seen (other_file t.log.file)) None [] → Quiet old mid) c.self.view_is (c.close_other.ensures.quiet told) in
+    spares_closed store f.0 old f.1.of_log mid s still
 
 pub returns-in_err-close_other-clause-any_moment : goal.returns-in_err-close_other-clause-any_moment
 returns-in_err-close_other-clause-any_moment g c = λ told base is.
@@ -59,9 +61,9 @@ returns-in_err-clear_files-clause-spares g c = λ told.
     let new = g.V.Vol.disk c.clear_files.new.vol in
     let table = c.in_ok-catch_up.ensures.all ∙ ap (λ (t : StoreState). t.blocks) c.self.view_is in
     let s : Starts (other_file store.log.file) old mid = subst (λ (t : StoreState). Starts (other_file t.log.file) old mid) c.self.view_is (c.close_other.ensures.any_moment told) in
-    let still = subst (λ (t : StoreState). length (old.seen (other_file t.log.file)) ≤ 21 → Quiet old mid) c.self.view_is (c.close_other.ensures.quiet told) in
+    let still = subst (λ (t : StoreState). HasOpen (old.seen (other_file t.log.file)) None [] → Quiet old mid) c.self.view_is (c.close_other.ensures.quiet told) in
     let spares : Spares (IsUsed store.blocks) mid new = subst (λ (b : Blocks). Spares (IsUsed b) mid new) table (c.clear_files.ensures.spares told) in
-    spares_both store f.0 old f.1 mid new (spares_closed store f.0 old f.1 mid s still) spares
+    spares_both store f.0 old f.1.of_log mid new (spares_closed store f.0 old f.1.of_log mid s still) spares
 
 pub returns-in_err-clear_files-clause-any_moment : goal.returns-in_err-clear_files-clause-any_moment
 returns-in_err-clear_files-clause-any_moment g c = λ told base is.
@@ -86,9 +88,9 @@ returns-clause-spares g c = λ told.
     let new = g.V.Vol.disk c.clear_files.new.vol in
     let table = c.in_ok-catch_up.ensures.all ∙ ap (λ (t : StoreState). t.blocks) c.self.view_is in
     let s : Starts (other_file store.log.file) old mid = subst (λ (t : StoreState). Starts (other_file t.log.file) old mid) c.self.view_is (c.close_other.ensures.any_moment told) in
-    let still = subst (λ (t : StoreState). length (old.seen (other_file t.log.file)) ≤ 21 → Quiet old mid) c.self.view_is (c.close_other.ensures.quiet told) in
+    let still = subst (λ (t : StoreState). HasOpen (old.seen (other_file t.log.file)) None [] → Quiet old mid) c.self.view_is (c.close_other.ensures.quiet told) in
     let spares : Spares (IsUsed store.blocks) mid new = subst (λ (b : Blocks). Spares (IsUsed b) mid new) table (c.clear_files.ensures.spares told) in
-    spares_both store f.0 old f.1 mid new (spares_closed store f.0 old f.1 mid s still) spares
+    spares_both store f.0 old f.1.of_log mid new (spares_closed store f.0 old f.1.of_log mid s still) spares
 
 pub returns-clause-any_moment : goal.returns-clause-any_moment
 returns-clause-any_moment g c = λ told base is.
@@ -116,7 +118,14 @@ returns-clause-keeps g c = λ told base is.
     let firm : IsDurable mid (other_file store.log.file) = subst (λ (t : StoreState). IsDurable mid (other_file t.log.file)) c.self.view_is (c.in_ok-close_other.ensures.durable told) in
     let honest = g.met.V.Vol.honest told c.close_other.new.vol in
     let spares : Spares (IsUsed store.blocks) mid new = subst (λ (b : Blocks). Spares (IsUsed b) mid new) table (c.clear_files.ensures.spares told) in
-    both_base store base old mid new is s closed firm honest spares
+    let i = c.self.inside in
+    let kept : IsBase (record store { rooms = record store.rooms { reach = None } }) base new = record {
+      of_log = both_base store base old mid new is.of_log s closed firm honest spares;
+      rooms = rooms_cleared store.blocks store.rooms old mid new (c.in_ok-close_other.ensures.as_long told) spares is.rooms;
+    } in
+    let forgets : StoreState → StoreState = λ t. record t { rooms = record t.rooms { reach = None } } in
+    let caught : Blocks → StoreState = λ b. record { log = i.log; blocks = b; unused = i.unused.items; rooms = record i.rooms { reach = None } } in
+    subst (λ (t : StoreState). IsBase t base new) (sym (ap caught c.catch_up.ensures.same ∙ ap forgets c.self.view_is)) kept
 
 pub returns-clause-closed : goal.returns-clause-closed
 returns-clause-closed g c = λ told.

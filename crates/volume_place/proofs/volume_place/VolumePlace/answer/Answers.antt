@@ -1,4 +1,4 @@
-use Rattle.std.proofs.Common.{◌≡◌, ◌<◌, ◌^◌, ◌||◌, ℕ, Bool, true, false, List, Option, None, Some, Ok, Err, length, nat_lt, sym, ap, subst, ◌∙◌, arith}
+use Rattle.std.proofs.Common.{◌≡◌, ◌≤◌, ◌<◌, ◌+◌, ◌^◌, ◌||◌, ℕ, Bool, true, false, List, Option, None, Some, length, nat_lt, sym, ap, subst, ◌∙◌, arith}
 use Rattle.std.specs.Prelude.{Decides, IfSome}
 use Rattle.std.proofs.lemmas.Bool.{and_parts}
 use Rattle.std.proofs.lemmas.Result.{err_from_is_err_and}
@@ -7,16 +7,22 @@ use Rattle.js_model.specs.Firm.{IsFirmStep}
 use Rattle.place_engine.specs.Following.{followed}
 use Rattle.place_engine.specs.Places.{ids_in}
 use Rattle.place_records.specs.Records.{effects_in}
+use Rattle.snapshot_bound.specs.Asking.{event_fixed}
+use Rattle.snapshot_bound.specs.Laws.{if_room}
 use Rattle.volume_place.specs.Rooms.{room_for}
-use Rattle.volume_place.proofs.Answering.{answered_sound, left_counted}
+use Rattle.volume_place.proofs.Answering.{Holds, answered_sound, left_counted, left_sound}
 use Rattle.volume_place.proofs.Changing.{told_changes}
 use Rattle.volume_place.proofs.Dated.{dated_as, dated_with, since_kept}
 use Rattle.volume_place.proofs.Moved.{joined, taken, unmoved}
+use Rattle.volume_place.proofs.Reserving.{raised_is}
 use Rattle.volume_place.proofs.volume_place.VolumePlace.answer.Goals as goal
 use Rattle.volume_place.proofs.volume_place.VolumePlace.answer.Goals.{in-Ok-take, then-more, else-more, in-Err}
 
 pub has_room-requires-clause-proper : goal.has_room-requires-clause-proper
 has_room-requires-clause-proper g c = (and_parts _ _ c.requires.proper).1
+
+pub growth_of-requires : goal.growth_of-requires
+growth_of-requires g c = record { proper = (and_parts _ _ c.requires.proper).1 }
 
 pub answer_in-said-requires-clause-proper : goal.answer_in-said-requires-clause-proper
 answer_in-said-requires-clause-proper g c = (and_parts _ _ c.requires.proper).1
@@ -33,14 +39,13 @@ invariant_of-self-in_err-reply g c =
     let going = rw (← c.self.view_is) at c.requires.going in
     let kept = rw (← c.self.view_is) at c.requires.kept in
     let moment : c.args.now < 2 ^ 62 = omega arith in
-    let told_room = c.in-Ok-has_room.ensures.value ∙ ap (λ (l : List Effect). room_for i.store.blocks l e.what) c.records-waiting.ensures.value in
+    let told_room = c.in-Ok-has_room.ensures.value ∙ ap (λ (l : List Effect). room_for i.fixed i.store i.slot l e.what) c.records-waiting.ensures.value in
+    let holds : Holds V.told (V.disk i.vol) i.store before i.stored i.stopped i.fixed i.slot = record { sound = c.self.invariant.0; blocks = c.self.invariant.1; reserve = c.self.invariant.3 } in
     let p =
-    answered_sound V.told (V.disk i.vol) i.store before i.stored i.stopped going i.slot (c.self.invariant.0, c.self.invariant.1) c.has_room.new.store c.has_room.ensures.same c.take.new.self c.in-Ok.ensures.ok
-    e room told_room (Err left) c.answer_in-said.new.slot c.args.now c.args.outs.now c.answer_in-said.new.outs made i.stored kept c.requires.proper moment tt c.in_err-reply.ensures.err
-    c.in_err-reply.ensures.recorded
-    (left_counted V.told (V.disk i.vol) i.store before i.stored i.stopped going i.slot (c.self.invariant.0, c.self.invariant.1) c.has_room.new.store c.has_room.ensures.same c.take.new.self c.in-Ok.ensures.ok
-    e room told_room left c.args.now made c.in_err-reply.ensures.recorded) in
-    (p.0, p.1, dated_with c.args.now i.since c.since_with-self-inside.result (followed c.take.new.self made) (c.since_with-self-inside.ensures.value c.take.new.self (dated_as c.take.new.self before i.since c.in-Ok.ensures.ok c.self.invariant.2)))
+    left_sound V.told (V.disk i.vol) i.store before i.stored i.stopped going i.fixed i.slot holds c.has_room.new.store c.has_room.ensures.same c.take.new.self c.in-Ok.ensures.ok
+    e room told_room left c.answer_in-said.new.slot c.args.now c.args.outs.now c.answer_in-said.new.outs made kept c.requires.proper moment c.in_err-reply.ensures.err
+    c.in_err-reply.ensures.recorded in
+    (p.sound, p.blocks, dated_with c.args.now i.since c.since_with-self-inside.result (followed c.take.new.self made) (c.since_with-self-inside.ensures.value c.take.new.self (dated_as c.take.new.self before i.since c.in-Ok.ensures.ok c.self.invariant.2)), p.reserve)
 
 pub returns-in_err-reply-clause-err_recorded : goal.returns-in_err-reply-clause-err_recorded
 returns-in_err-reply-clause-err_recorded g c =
@@ -52,8 +57,9 @@ returns-in_err-reply-clause-err_recorded g c =
     let room = c.in-Ok-has_room.room in
     let left = c.in_err-reply.field-0.0 in
     let going = rw (← c.self.view_is) at c.requires.going in
-    let told_room = c.in-Ok-has_room.ensures.value ∙ ap (λ (l : List Effect). room_for i.store.blocks l e.what) c.records-waiting.ensures.value in
-    let counted = left_counted V.told (V.disk i.vol) i.store before i.stored i.stopped going i.slot (c.self.invariant.0, c.self.invariant.1) c.has_room.new.store c.has_room.ensures.same c.take.new.self c.in-Ok.ensures.ok
+    let told_room = c.in-Ok-has_room.ensures.value ∙ ap (λ (l : List Effect). room_for i.fixed i.store i.slot l e.what) c.records-waiting.ensures.value in
+    let holds : Holds V.told (V.disk i.vol) i.store before i.stored i.stopped i.fixed i.slot = record { sound = c.self.invariant.0; blocks = c.self.invariant.1; reserve = c.self.invariant.3 } in
+    let counted = left_counted V.told (V.disk i.vol) i.store before i.stored i.stopped going i.fixed i.slot holds c.has_room.new.store c.has_room.ensures.same c.take.new.self c.in-Ok.ensures.ok
     e room told_room left c.args.now made c.in_err-reply.ensures.recorded in
     let p = err_from_is_err_and c.from_residual.result c.from_residual.ensures.1 in
     rw (p.1, p.2)
@@ -76,14 +82,20 @@ invariant_of-self-2 g c =
     let going = rw (← c.self.view_is) at c.requires.going in
     let kept = rw (← c.self.view_is) at c.requires.kept in
     let moment : c.args.now < 2 ^ 62 = omega arith in
-    let told_room = c.in-Ok-has_room.ensures.value ∙ ap (λ (l : List Effect). room_for i.store.blocks l e.what) c.records-waiting.ensures.value in
+    let told_room = c.in-Ok-has_room.ensures.value ∙ ap (λ (l : List Effect). room_for i.fixed i.store i.slot l e.what) c.records-waiting.ensures.value in
+    let holds : Holds V.told (V.disk i.vol) i.store before i.stored i.stopped i.fixed i.slot = record { sound = c.self.invariant.0; blocks = c.self.invariant.1; reserve = c.self.invariant.3 } in
     let moved = taken c.take-2.result c.take-2.new.self c.take.new.self c.take-2.new.made c.answer_in-said.new.made c.take-2.ensures.ok c.take-2.ensures.none c.take-2.ensures.err c.take-2.ensures.made_left in
+    let growth = c.in-Ok-growth_of.growth in
+    let fits = c.in-Ok-has_room.ensures.fits in
+    let raised : c.raise-self-inside.result ≡ i.fixed + if_room room (event_fixed i.slot e.what) =
+    c.raise-self-inside.ensures.value ∙ raised_is i.fixed growth.fixed (event_fixed i.slot e.what) room c.in-Ok-growth_of.ensures.value.fixed fits in
+    let small : c.raise-self-inside.result ≤ 2 ^ 31 = let value = c.raise-self-inside.ensures.value in omega (arith, value, fits) in
     let p =
-    answered_sound V.told (V.disk i.vol) i.store before i.stored i.stopped going i.slot (c.self.invariant.0, c.self.invariant.1) c.has_room.new.store c.has_room.ensures.same c.take.new.self c.in-Ok.ensures.ok
-    e room told_room (Ok c.in_ok-reply.reply) c.answer_in-said.new.slot c.args.now c.args.outs.now c.answer_in-said.new.outs made c.count_with-self-inside.result kept c.requires.proper moment
-    c.in_ok-reply.ensures.answers tt c.in_ok-reply.ensures.recorded c.count_with-self-inside.ensures.value in
+    answered_sound V.told (V.disk i.vol) i.store before i.stored i.stopped going i.fixed i.slot holds c.has_room.new.store c.has_room.ensures.same c.take.new.self c.in-Ok.ensures.ok
+    e room told_room c.in_ok-reply.reply c.answer_in-said.new.slot c.args.now c.args.outs.now c.answer_in-said.new.outs made c.count_with-self-inside.result c.raise-self-inside.result kept
+    c.requires.proper moment c.in_ok-reply.ensures.answers c.in_ok-reply.ensures.recorded c.count_with-self-inside.ensures.value raised small in
     rw moved
-    (p.0, p.1, dated_with c.args.now i.since c.since_with-self-inside.result (followed c.take.new.self made) (c.since_with-self-inside.ensures.value c.take.new.self (dated_as c.take.new.self before i.since c.in-Ok.ensures.ok c.self.invariant.2)))
+    (p.sound, p.blocks, dated_with c.args.now i.since c.since_with-self-inside.result (followed c.take.new.self made) (c.since_with-self-inside.ensures.value c.take.new.self (dated_as c.take.new.self before i.since c.in-Ok.ensures.ok c.self.invariant.2)), p.reserve)
 
 pub returns-clause-firm : goal.returns-clause-firm
 returns-clause-firm g c = elim c.match-take-2.branch [

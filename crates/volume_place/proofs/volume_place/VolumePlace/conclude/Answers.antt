@@ -1,4 +1,4 @@
-use Rattle.std.proofs.Common.{◌≡◌, ◌⊎◌, inl, inr, Bool, true, Option, ap, subst, sym, ◌∙◌}
+use Rattle.std.proofs.Common.{◌≡◌, ◌⊎◌, inl, inr, Bool, true, false, Option, ap, subst, sym, ◌∙◌}
 use Rattle.std.specs.Prelude.{MatchResult}
 use Rattle.place_engine.specs.Stepping.{Elapses}
 use Rattle.volume_place.specs.Bringing.{Brings, Concludes}
@@ -7,8 +7,8 @@ use Rattle.volume_place.specs.Images.{holds}
 use Rattle.volume_place.specs.Leaving.{IsLeftIfWorn, LogGoes}
 use Rattle.volume_place.specs.Seeing.{seen_of}
 use Rattle.volume_place.specs.Since.{KeepsTail}
-use Rattle.volume_place.specs.Tail.{MayWait, MustNotWait}
-use Rattle.volume_place.proofs.Concluded.{concluded, must_not}
+use Rattle.volume_place.specs.Tail.{is_small}
+use Rattle.volume_place.proofs.Concluded.{concluded}
 use Rattle.volume_place.proofs.volume_place.VolumePlace.conclude.Goals.{else-not-urgent-via-then-not-urgent+in_ok-may_wait+else-branch, else-not-urgent-via-else-not-urgent}
 use Rattle.volume_place.proofs.volume_place.VolumePlace.conclude.Goals as goal
 
@@ -20,14 +20,14 @@ returns-clause-concludes g c =
       | else-not-urgent-via-then-not-urgent+in_ok-may_wait+else-branch w ↦ w.self-is ∙ w.may_wait.ensures.same
       | else-not-urgent-via-else-not-urgent w ↦ w.self-is
     ] in
-    let cause : (c.in-Some.urgent ≡ true) ⊎ MustNotWait x.store x.waiting = elim c.else-not-urgent.branch [
+    let cause : (c.in-Some.urgent ≡ true) ⊎ (is_small x.waiting ≡ false) = elim c.else-not-urgent.branch [
       | else-not-urgent-via-then-not-urgent+in_ok-may_wait+else-branch w ↦
-          inr (must_not _ (MayWait x.store x.waiting) (MustNotWait x.store x.waiting) w.if-branch.false w.in_ok-may_wait.ensures.waits)
+          inr (sym w.in_ok-may_wait.ensures.waits ∙ w.if-branch.false)
       | else-not-urgent-via-else-not-urgent w ↦ inl w.if-not-urgent.false
     ] in
-    let brings = subst (λ (a : Contents _). Brings c.bring.result (seen_of V.told V.disk V.faults a) (seen_of V.told V.disk V.faults c.bring.new.self)) same c.bring.ensures.brings in
-    subst (λ (o : Option Bool). Concludes o c.bring.result (seen_of V.told V.disk V.faults x) (seen_of V.told V.disk V.faults c.bring.new.self)) (sym c.in-Some.is)
-    (concluded V.told V.disk V.faults x c.in-Some.urgent c.bring.new.self c.bring.result cause brings)
+    let brings = subst (λ (a : Contents _). Brings c.bring.result (seen_of V.told V.disk V.faults V.refusals a) (seen_of V.told V.disk V.faults V.refusals c.bring.new.self)) same c.bring.ensures.brings in
+    subst (λ (o : Option Bool). Concludes o c.bring.result (seen_of V.told V.disk V.faults V.refusals x) (seen_of V.told V.disk V.faults V.refusals c.bring.new.self)) (sym c.in-Some.is)
+    (concluded V.told V.disk V.faults V.refusals x c.in-Some.urgent c.bring.new.self c.bring.result cause brings)
 
 pub returns-clause-tail : goal.returns-clause-tail
 returns-clause-tail g c =
@@ -44,7 +44,7 @@ returns-clause-time g c =
       | else-not-urgent-via-then-not-urgent+in_ok-may_wait+else-branch w ↦ w.self-is ∙ w.may_wait.ensures.same
       | else-not-urgent-via-else-not-urgent w ↦ w.self-is
     ] in
-    subst (λ (a : Contents _). Elapses holds (seen_of V.told V.disk V.faults a) (seen_of V.told V.disk V.faults c.bring.new.self)) same c.bring.ensures.time
+    subst (λ (a : Contents _). Elapses holds (seen_of V.told V.disk V.faults V.refusals a) (seen_of V.told V.disk V.faults V.refusals c.bring.new.self)) same c.bring.ensures.time
 
 pub returns-clause-log : goal.returns-clause-log
 returns-clause-log g c =

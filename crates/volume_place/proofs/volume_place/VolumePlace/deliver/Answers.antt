@@ -3,6 +3,7 @@ use Rattle.std.proofs.lemmas.Bool.{le-leb}
 use Rattle.effects.specs.declared.effect.Effect.{Effect}
 use Rattle.place_engine.specs.Following.{followed}
 use Rattle.place_records.specs.Records.{effects_in}
+use Rattle.volume_place.proofs.Answering.{Holds, sent_reserve}
 use Rattle.volume_place.proofs.Dated.{dated_as, dated_with, since_kept}
 use Rattle.volume_place.proofs.Growing.{grown_sent}
 use Rattle.volume_place.proofs.Moved.{unmoved}
@@ -19,11 +20,15 @@ invariant_of-self-2 g c =
     let before = followed i.tail (effects_in i.made) in
     let blocks = sent_blocks i.store.blocks before i.stored c.deliver_one-sent.result i.slot c.args.now c.deliver_one-sent.new.self (effects_in c.deliver_one-sent.new.made)
     (has_blocks i.store.blocks before i.stored i.stopped going c.self.invariant.1) c.deliver_one-sent.ensures.recorded in
+    let holds : Holds V.told (V.disk i.vol) i.store before i.stored i.stopped i.fixed i.slot = record { sound = c.self.invariant.0; blocks = c.self.invariant.1; reserve = c.self.invariant.3 } in
+    let grown = grown_sent V.told (V.disk i.vol) i.store before i.stopped going i.slot c.self.invariant.0 c.deliver_one-sent.result c.deliver_one-sent.new.self c.args.now
+    c.args.listening.now c.args.outs.now c.deliver_one-sent.new.outs (effects_in c.deliver_one-sent.new.made) (le-leb _ _ bound) moment c.deliver_one-sent.ensures.delivers c.deliver_one-sent.ensures.recorded in
     rw c.in-Ok.ensures.ok (
-      grown_sent V.told (V.disk i.vol) i.store before i.stopped going i.slot c.self.invariant.0 c.deliver_one-sent.result c.deliver_one-sent.new.self c.args.now
-          c.args.listening.now c.args.outs.now c.deliver_one-sent.new.outs (effects_in c.deliver_one-sent.new.made) (le-leb _ _ bound) moment c.deliver_one-sent.ensures.delivers c.deliver_one-sent.ensures.recorded,
+      grown,
       may_store i.store.blocks (followed before (effects_in c.deliver_one-sent.new.made)) i.stored i.stopped going blocks,
       dated_with c.args.now i.since c.since_with-self-inside.result (followed before (effects_in c.deliver_one-sent.new.made)) (c.since_with-self-inside.ensures.value before c.self.invariant.2),
+      sent_reserve V.told (V.disk i.vol) i.store before i.stored i.stopped going i.fixed i.slot holds c.deliver_one-sent.result c.deliver_one-sent.new.self c.args.now
+          c.args.listening.now c.args.outs.now c.deliver_one-sent.new.outs (effects_in c.deliver_one-sent.new.made) (le-leb _ _ bound) moment c.deliver_one-sent.ensures.delivers c.deliver_one-sent.ensures.recorded grown,
     )
 
 pub returns-clause-recorded : goal.returns-clause-recorded

@@ -1,7 +1,6 @@
 use Rattle.std.proofs.Common.{◌≡◌, subst}
 use Rattle.vol_disk.specs.Disk.{Disk}
 use Rattle.volume_place.specs.Contents.{Contents}
-use Rattle.volume_place.specs.Rooms.{MayStore}
 use Rattle.volume_place.specs.Sound.{IsSoundPlace}
 use Rattle.volume_place.proofs.Kept.{kept_of, reads_of}
 use Rattle.volume_place.proofs.volume_place.VolumePlacePlace.law_kept.Goals as goal
@@ -11,14 +10,9 @@ sound_as : {V : Type 0} (told : Type 0) (disk : V → Disk) (inside place : Cont
     → IsSoundPlace told (disk inside.vol) inside.store inside.waiting inside.stopped inside.state → IsSoundPlace told (disk place.vol) place.store place.waiting place.stopped place.state
 sound_as {V} told disk inside place is = subst (λ (p : Contents V). IsSoundPlace told (disk p.vol) p.store p.waiting p.stopped p.state) is
 
-blocks_as : {V : Type 0} (inside place : Contents V) → inside ≡ place
-    → MayStore inside.stopped inside.store.blocks inside.waiting inside.stored → MayStore place.stopped place.store.blocks place.waiting place.stored
-blocks_as {V} inside place is = subst (λ (p : Contents V). MayStore p.stopped p.store.blocks p.waiting p.stored) is
-
 pub returns-clause-kept : goal.returns-clause-kept
 returns-clause-kept g c =
-    kept_of g.V.Vol.told g.V.Vol.disk g.V.Vol.faults c.args.self.now (g.met.V.Vol.clocked c.args.self.now.vol) (sound_as g.V.Vol.told g.V.Vol.disk _ _ c.self.view_is c.self.invariant.0)
-    (blocks_as _ _ c.self.view_is c.self.invariant.1)
+    kept_of g.V.Vol.told g.V.Vol.disk g.V.Vol.faults g.V.Vol.refusals c.args.self.now (g.met.V.Vol.clocked c.args.self.now.vol) (sound_as g.V.Vol.told g.V.Vol.disk _ _ c.self.view_is c.self.invariant.0)
 
 pub returns-clause-reads : goal.returns-clause-reads
-returns-clause-reads g c = reads_of g.V.Vol.told g.V.Vol.disk g.V.Vol.faults c.args.self.now (sound_as g.V.Vol.told g.V.Vol.disk _ _ c.self.view_is c.self.invariant.0)
+returns-clause-reads g c = reads_of g.V.Vol.told g.V.Vol.disk g.V.Vol.faults g.V.Vol.refusals c.args.self.now (sound_as g.V.Vol.told g.V.Vol.disk _ _ c.self.view_is c.self.invariant.0)
