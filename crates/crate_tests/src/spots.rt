@@ -131,3 +131,26 @@ fn batch_is_placed_before_it_is_put(rt: HostRuntime) -> Result<(), Fail> {
     assert_eq!(rt; table.older(), [].as_slice());
     Ok(())
 }
+
+#[test]
+fn long_block_without_messages_is_left_behind_a_batch(rt: HostRuntime) -> Result<(), Fail> {
+    let mut table = filled(rt.alloc(), 8).ok_or("no place")?;
+    table.close();
+    assert_eq!(rt; table.writing(), Some(block(3, LEN)));
+    table.remove(8, 8);
+    assert_eq!(rt; table.writing(), Some(block(3, LEN)));
+    table.close();
+    assert_eq!(rt; table.writing(), None);
+    assert!(rt; !table.has_block(3));
+    assert_eq!(rt; table.older(), [block(2, 7_340_270)].as_slice());
+    assert!(rt; store(&mut table, 9, 1_048_575).is_some());
+    assert_eq!(rt; table.writing(), Some(block(3, 1_048_575)));
+    table.remove(9, 9);
+    table.close();
+    assert_eq!(rt; table.writing(), Some(block(3, 1_048_575)));
+    assert!(rt; store(&mut table, 10, 1).is_some());
+    table.remove(10, 10);
+    table.close();
+    assert_eq!(rt; table.writing(), None);
+    Ok(())
+}

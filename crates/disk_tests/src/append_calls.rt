@@ -1,22 +1,28 @@
-//! `gate_log`: what an append asks of the volume, whatever the log holds.
+//! `gate_log`: what an append asks of the volume, however many records there are.
 
-use gate_log::GateLog;
+use crate::logs::logged;
+use gate_log::Batch;
 use std::test::Fail;
-use vol_disk::{Call, Deed, MemVol};
+use vol_disk::{Call, Deed};
 
 /// How many bytes a call writes, or `None` for another call than a write.
 fn write_len(call: &Call) -> Option<usize> {
     match &call.deed {
         Deed::Write { at: _, bytes } => Some(bytes.len()),
-        Deed::Len | Deed::Read { at: _, count: _ } | Deed::Cut { to: _ } | Deed::Sync | Deed::End =>
-            None,
+        Deed::Len
+        | Deed::Read { at: _, count: _ }
+        | Deed::Grow { count: _ }
+        | Deed::Cut { to: _ }
+        | Deed::Sync
+        | Deed::End => None,
     }
 }
 
 /// Whether the calls write a batch of so many bytes of records with its length, its checksum and a closed gate, and then open its gate, each with a sync.
+/// `Blind` asks for the length before each write.
 fn are_an_append(calls: &[Call], records: usize) -> bool {
     match calls {
-        [batch, batch_sync, gate, gate_sync] => {
+        [_, batch, batch_sync, _, gate, gate_sync] => {
             write_len(batch) == Some(records.saturating_add(9))
                 && write_len(gate) == Some(1)
                 && matches!(&batch_sync.deed, Deed::Sync)
@@ -29,13 +35,13 @@ fn are_an_append(calls: &[Call], records: usize) -> bool {
 #[test]
 fn append_takes_two_writes_each_with_a_sync(rt: HostRuntime) -> Result<(), Fail> {
     let alloc = rt.alloc();
-    let mut vol = MemVol::new(alloc).image(1)?;
-    let mut log = GateLog::start(alloc, &mut vol, 0, 7)?;
     for count in 0..30 {
+        let (mut vol, mut log) = logged(alloc)?;
         let records = vec![in alloc; b'x'; count]?;
-        let before = vol.calls().len();
-        log.append(alloc, &mut vol, records.as_slice())?;
-        let made = vol.calls().get(before..);
+        let batch = Batch::of(alloc, records.as_slice())?;
+        let before = vol.vol().calls().len();
+        log.append_batch(&mut vol, &batch)?;
+        let made = vol.vol().calls().get(before..);
         assert!(rt;
             made.is_some_and(|calls| are_an_append(calls, count)),
             "{count}"

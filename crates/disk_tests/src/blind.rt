@@ -1,26 +1,28 @@
 //! A volume in memory of which nothing is told, so that records may be committed to it of which nobody has shown that they fit.
 
-ghost use Rattle.std.specs.Prelude.{◌≡◌, ◌+◌, nat_le, IsErr};
+ghost use Rattle.std.specs.Prelude.{◌≡◌, ◌+◌, nat_le, Ok, IsErr};
 ghost use Rattle.js_base.specs.Causes.{HasCause};
+ghost use Rattle.vol_disk.specs.Growing.{IsRefused};
 
 use js_base::{List, NoMemory};
 use std::alloc::Global;
 use std::marker::Model;
-use vol_disk::{Failed, MemVol, Vol};
+use vol_disk::{Failed, MemVol, Room, Vol};
 
-/// A volume in memory, which counts its own faults. A read, a write or a cut past the end fails.
+/// A volume in memory, which counts its own faults and refusals. A read, a write or a cut past the end fails.
 #[derive(Drop)]
 pub struct Blind {
     vol: MemVol,
     faults: u64,
+    refusals: u64,
 }
 
 impl Model for Blind {
-    ghost use Rattle.std.specs.Prelude.{ℕ};
+    ghost use Rattle.vol_disk.specs.Untold.{Counts};
 
-    ghost Value = { ℕ };
+    ghost Value = { Counts };
 
-    ghost view = { λ s. s.faults };
+    ghost view = { λ s. record { faults = s.faults; refusals = s.refusals } };
 }
 
 /// Whether so many bytes from an offset on lie in a file of this length.
@@ -42,10 +44,10 @@ fn read_within(vol: &mut MemVol, file: u32, at: u64, into: &mut [u8]) -> Result<
     vol.read_at(file, at, into)
 }
 
-/// Writes, or fails where the write begins past the end.
+/// Writes, or fails where the write ends past the end.
 fn write_within(vol: &mut MemVol, file: u32, at: u64, bytes: &[u8]) -> Result<(), Failed> {
     let len = vol.len(file)?;
-    if at > len {
+    if !lies_within(at, bytes.len(), len) {
         return Err(Failed);
     }
     vol.write_at(file, at, bytes)
@@ -77,7 +79,13 @@ impl Blind {
         Ok(Blind {
             vol: vol.with_failures(numbers, stop),
             faults: 0,
+            refusals: 0,
         })
+    }
+
+    /// The volume in memory.
+    pub fn vol(&self) -> &MemVol {
+        &self.vol
     }
 
     /// The volume in memory.
@@ -87,12 +95,24 @@ impl Blind {
 
     /// The answer of a call, which is counted if it failed.
     fn counted<T: Drop>(&mut self, answer: Result<T, Failed>) -> Result<T, Failed>
-        ensures cause { HasCause self.old self.new (IsErr result) }
+        ensures cause { HasCause self.old.faults self.new.faults (IsErr result) }
+        ensures refusals { self.new.refusals ≡ self.old.refusals }
     {
         if answer.is_err() {
             self.faults = self.faults.saturating_add(1);
         }
         answer
+    }
+
+    /// The answer of a call for room, which is counted if there was none.
+    fn counted_room(&mut self, room: Room) -> Room
+        ensures faults { self.new.faults ≡ self.old.faults }
+        ensures refused { HasCause self.old.refusals self.new.refusals (IsRefused (Ok result)) }
+    {
+        if room == Room::Refused {
+            self.refusals = self.refusals.saturating_add(1);
+        }
+        room
     }
 }
 
@@ -103,7 +123,9 @@ impl Vol for Blind {
 
     ghost told = { ⊥ };
 
-    ghost faults = { λ faults. faults };
+    ghost faults = { λ counts. counts.faults };
+
+    ghost refusals = { λ counts. counts.refusals };
 
     ghost clocked = { λ _. untold_clocked };
 
@@ -124,6 +146,16 @@ impl Vol for Blind {
         self.counted(written)
     }
 
+    fn grow(&mut self, file: u32, count: u32) -> Result<Room, Failed> {
+        let grown = self.vol.grow(file, count);
+        let room = self.counted(grown)?;
+        Ok(self.counted_room(room))
+    }
+
+    fn chunk(&self) -> u32 {
+        self.vol.chunk()
+    }
+
     fn cut(&mut self, file: u32, to: u64) -> Result<(), Failed> {
         let cut = cut_within(&mut self.vol, file, to);
         self.counted(cut)
@@ -140,9 +172,13 @@ impl Vol for Blind {
     }
 
     /// It tells nobody.
-    fn tell_stopped(&self, _stream: &[u8], _full: bool) {}
+    fn tell_stopped(&self, _stream: &[u8]) {}
 
     fn faults(&self) -> u64 {
         self.faults
+    }
+
+    fn refusals(&self) -> u64 {
+        self.refusals
     }
 }

@@ -1,7 +1,7 @@
 //! `message_block`: blocks that are written, read and dropped over volumes in memory, each of whose calls fails once, and what a crash leaves of them.
 
 use crate::blind::Blind;
-use crate::contents::holds;
+use crate::contents::{holds, reach};
 use js_base::Spot;
 use message_block::{BlockFault, drop_block, read, write};
 use std::alloc::Global;
@@ -11,6 +11,13 @@ use vol_disk::{Failed, MemVol, Vol};
 
 /// How many calls a write or a drop makes of a volume, with that for the length that `Blind` makes before it.
 const CALLS: u64 = 3;
+
+/// The spot of the bytes in the block of file 3.
+const OTHER: Spot = Spot {
+    file: 3,
+    at: 0,
+    len: 5,
+};
 
 /// A spot in the block of file 2.
 fn spot(at: u32, len: u32) -> Spot {
@@ -28,6 +35,9 @@ fn faulty(alloc: Global, vol: MemVol, at: u64, is_stopped: bool) -> Result<Blind
 /// A volume whose block of file 2 holds `hello`, and that of file 3 `other`.
 fn with_blocks(alloc: Global) -> Result<MemVol, Fail> {
     let mut vol = Blind::over(alloc, MemVol::new(alloc), &[], None)?;
+    for file in [2, 3] {
+        reach(&mut vol, file, 30)?;
+    }
     write(&mut vol, 2, 0, b"hello")?;
     write(&mut vol, 3, 0, b"other")?;
     Ok(vol.into_vol())
@@ -118,7 +128,15 @@ fn check_drop(rt: &impl Abort, alloc: Global, at: u64, is_stopped: bool) -> Resu
             dropped.is_err() || holds(alloc, &mut image, 2, b"")?,
             "{at}"
         );
-        assert!(rt; holds(alloc, &mut image, 3, b"other")?, "{at}");
+        assert!(rt;
+            reads(
+                alloc,
+                &mut Blind::over(alloc, image, &[], None)?,
+                OTHER,
+                b"other"
+            )?,
+            "{at}"
+        );
     }
     Ok(())
 }

@@ -19,8 +19,14 @@ mod folder;
 #[cfg(test)]
 mod locked_folder;
 #[cfg(test)]
+mod log_rooms;
+#[cfg(test)]
+mod logs;
+#[cfg(test)]
+mod rooms;
+#[cfg(test)]
 mod stopped_appends;
 #[cfg(test)]
-mod stopped_clearings;
+mod stopped_shutting;
 #[cfg(test)]
 mod volumes;

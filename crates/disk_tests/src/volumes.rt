@@ -2,42 +2,22 @@
 
 ghost use Rattle.std.specs.Prelude.{◌≤◌, length};
 
-use crate::contents::{append, cut, holds};
+use crate::contents::{are_spelled, cut, holds, reach};
 use js_base::{List, NoMemory};
 use std::alloc::Global;
 use std::sync::Arc;
 use std::sync::atomic::AtomicBool;
 use std::test::Fail;
-use vol_disk::{Call, Deed, Failed, HoldVol, MemVol, Vol, cut_synced, write_synced};
+use vol_disk::{Failed, HoldVol, MemVol, Vol, cut_synced, write_synced};
 
 fn numbers(alloc: Global, of: &[u64]) -> Result<List<u64>, NoMemory> {
     Ok(List::from_vec(Vec::from_slice(alloc, of)?))
 }
 
-/// The letter of a call.
-fn letter(deed: &Deed) -> u8 {
-    match deed {
-        Deed::Len => b'l',
-        Deed::Read { at: _, count: _ } => b'r',
-        Deed::Write { at: _, bytes: _ } => b'w',
-        Deed::Cut { to: _ } => b'c',
-        Deed::Sync => b's',
-        Deed::End => b'e',
-    }
-}
-
-/// Whether the calls are those of the text: a letter for each, a capital where it failed.
-fn are_spelled(calls: &[Call], text: &[u8]) -> bool {
-    if calls.len() != text.len() {
-        return false;
-    }
-    for (call, wanted) in calls.iter().zip(text.iter()) {
-        let is_same = letter(&call.deed) == wanted.to_ascii_lowercase();
-        if !is_same || call.is_done != wanted.is_ascii_lowercase() {
-            return false;
-        }
-    }
-    true
+/// Writes behind the end of a file.
+fn append(vol: &mut MemVol, file: u32, bytes: &[u8]) -> Result<(), Failed> {
+    let len = vol.len(file)?;
+    vol.write_at(file, len, bytes)
 }
 
 /// A volume whose file 0 was synced with these bytes.
@@ -172,6 +152,10 @@ fn image_may_fail_where_it_is_told(rt: HostRuntime) -> Result<(), Fail> {
 #[test]
 fn synced_changes_are_durable(rt: HostRuntime) -> Result<(), Fail> {
     let mut vol = MemVol::new(rt.alloc()).image(0)?;
+    reach(&mut vol, 4, 5)?;
+    let len = vol.len(4)?;
+    vol.sync(4)?;
+    assert!(rt; 5 <= len);
     write_synced(&mut vol, 4, 0, b"hello")?;
     assert!(rt; holds(rt.alloc(), &mut vol.image(2)?, 4, b"hello")?);
     cut_synced(&mut vol, 4, 0)?;
@@ -188,11 +172,12 @@ fn held_volume_waits_and_then_syncs(rt: HostRuntime) -> Result<(), Fail> {
     let mut vol = HoldVol::new(MemVol::new(rt.alloc()), 0, 1000, flag);
     is_sent(&vol);
     for file in [0, 1] {
-        append(&mut vol, file, b"hello")?;
+        vol.grow(file, 5)?;
+        vol.write_at(file, 0, b"hello")?;
         vol.sync(file)?;
         cut(&mut vol, file, 4)?;
         assert!(rt; holds(rt.alloc(), &mut vol, file, b"hell")?);
     }
-    assert!(rt; are_spelled(vol.vol().calls(), b"lwslclrlwslclr"));
+    assert!(rt; are_spelled(vol.vol().calls(), b"gwslclrgwslclr"));
     Ok(())
 }

@@ -26,7 +26,7 @@ const CONSUMER: &[u8] =
 
 /// A log's head, and a batch that says that no stream was there.
 const BEGUN: &[u8] =
-    b"JSLOG\0\0\x02\0\0\0\0\0\0\0\x01\x6A\x50\xFE\xEE\x01\0\0\0\x09\x51\xF2\x4F\x1D\x20\0\0\0\0\0\0\0\0";
+    b"JSLOG\0\0\x03\0\0\0\0\0\0\0\x01\x9E\x6E\x28\xA6\x01\0\0\0\x09\x51\xF2\x4F\x1D\x20\0\0\0\0\0\0\0\0";
 
 /// The block of file 2, with one message.
 const BLOCK: &[u8] =

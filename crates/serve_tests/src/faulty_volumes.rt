@@ -10,9 +10,9 @@ use std::test::Fail;
 use std::thread::Threads;
 use vol_disk::{MemVol, Vol};
 
-/// What is told of a publish to `ORDERS` if the volume fails in it.
-const STORE_FAULT: &[u8] =
-    b"MSG _I.1 1 93\r\n{\"error\":{\"code\":503,\"description\":\"store fault\",\"err_code\":20011},\"seq\":0,\"stream\":\"ORDERS\"}\r\n";
+/// What is told of a publish to `ORDERS` if the volume fails as room is made for it.
+const STREAM_STOPPED: &[u8] =
+    b"MSG _I.1 1 96\r\n{\"error\":{\"code\":503,\"description\":\"stream stopped\",\"err_code\":20012},\"seq\":0,\"stream\":\"ORDERS\"}\r\n";
 
 /// The volume as it reads, of which all calls fail from the one with this number on.
 fn failing_from(alloc: Global, vol: &MemVol, number: u64) -> Result<MemVol, Fail> {
@@ -68,7 +68,7 @@ fn volume_that_fails_in_a_session_stops_its_stream_alone(rt: HostRuntime) -> Res
     let [link] = ran.finish.door.back() else {
         return Err("one link comes back")?;
     };
-    assert!(rt; gives(link, FIRST, STORE_FAULT));
+    assert!(rt; gives(link, FIRST, STREAM_STOPPED));
     Ok(())
 }
 
@@ -88,9 +88,9 @@ fn bytes_that_no_server_wrote_are_told(rt: HostRuntime) -> Result<(), Fail> {
     let alloc = rt.alloc();
     let damaged = run_over_bytes(&rt, alloc, &[0; 22])?;
     assert!(rt; refuses(&damaged, 5, b"damaged place-00/f00000 at 0\n"));
-    let newer = b"JSLOG\0\0\x03\0\0\0\0\0\0\0\0\0\0\0\0\0\0";
+    let newer = b"JSLOG\0\0\x04\0\0\0\0\0\0\0\0\0\0\0\0\0\0";
     let newer = run_over_bytes(&rt, alloc, newer)?;
-    assert!(rt; refuses(&newer, 5, b"unknown version 3 in place-00\n"));
+    assert!(rt; refuses(&newer, 5, b"unknown version 4 in place-00\n"));
     Ok(())
 }
 

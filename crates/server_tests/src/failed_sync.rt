@@ -1,6 +1,6 @@
-//! A publish of which the first sync fails: the publisher is told, and the next run finds the message or does not.
+//! A publish of which the last sync fails: the publisher is told, and the next run finds the message or does not.
 
-use crate::failing::{failing_to_sync, one_sync_failed};
+use crate::failing::{failing_to_confirm, one_sync_failed};
 use crate::runs::{Outcome, gives, serve, with_stream};
 use std::alloc::Global;
 use std::process::Abort;
@@ -9,7 +9,10 @@ use std::test::Fail;
 use std::thread::Threads;
 use vol_disk::MemVol;
 
-/// Two messages, each with a reply.
+/// A message with a reply.
+const ONCE: &[u8] = b"PUB orders.a _I 5\r\nhello\r\n";
+
+/// It, and another one.
 const TWICE: &[u8] = b"PUB orders.a _I 5\r\nhello\r\nPUB orders.a _I 5\r\nagain\r\n";
 
 /// What is told of them if the volume fails in the first one: it failed, and then the stream is stopped.
@@ -45,7 +48,7 @@ fn reopened(
 fn publish_whose_sync_failed_is_there_or_not(rt: HostRuntime) -> Result<(), Fail> {
     let alloc = rt.alloc();
     let start = with_stream(&rt, alloc, "ORDERS", "orders.*", b"")?;
-    let vols = vec![in alloc; failing_to_sync(&rt, alloc, &start)?]?;
+    let vols = vec![in alloc; failing_to_confirm(&rt, alloc, &start, ONCE)?]?;
     let ran = serve(&rt, alloc, vols, TWICE)?;
     assert!(rt; gives(&ran, STOPPED));
     assert!(rt; one_sync_failed(ran.vols.as_slice()));

@@ -43,14 +43,31 @@ pub(crate) fn opening_calls(
     Ok(volume_of(&ran)?.calls().len() as u64)
 }
 
-/// The volume as it reads, of which the first sync behind its opening fails.
-pub(crate) fn failing_to_sync(
+/// The number of the last sync behind a write to the run's volume: the one by which the last deed was confirmed.
+pub(crate) fn confirming_sync(ran: &Outcome) -> Result<u64, Fail> {
+    let mut last = None;
+    let mut is_written = false;
+    for (number, call) in volume_of(ran)?.calls().iter().enumerate() {
+        if matches!(&call.deed, Deed::Sync) && is_written {
+            last = Some(number as u64);
+        }
+        is_written = matches!(&call.deed, Deed::Write { .. });
+    }
+    match last {
+        Some(number) => Ok(number),
+        None => Err("nothing was written")?,
+    }
+}
+
+/// The volume as it reads, of which the sync fails by which what the client says is confirmed.
+pub(crate) fn failing_to_confirm(
     rt: &(impl Threads + Wait + Sync),
     alloc: Global,
     vol: &MemVol,
+    said: &[u8],
 ) -> Result<MemVol, Fail> {
-    let first = opening_calls(rt, alloc, vol)?;
-    with_failing(alloc, vol, Failing::Once, first.saturating_add(1))
+    let ran = serve(rt, alloc, vec![in alloc; vol.image(1)?]?, said)?;
+    with_failing(alloc, vol, Failing::Once, confirming_sync(&ran)?)
 }
 
 /// Whether one call of the first volume failed, and that was a sync.

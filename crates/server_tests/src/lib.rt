@@ -11,6 +11,8 @@ mod failed_sync;
 #[cfg(test)]
 mod failing;
 #[cfg(test)]
+mod full_disk;
+#[cfg(test)]
 mod greatest_input;
 #[cfg(test)]
 mod redelivery;

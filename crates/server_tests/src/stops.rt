@@ -36,7 +36,10 @@ struct Sides {
 fn came_of(ran: &Outcome, deed: &Deed) -> Came {
     if gives(ran, deed.answer) {
         Came::Done
-    } else if gives(ran, deed.refusal) || !deed.is_confirmed && gave(ran, deed.answer) {
+    } else if gives(ran, deed.refusal)
+        || gives(ran, deed.stop)
+        || !deed.is_confirmed && gave(ran, deed.answer)
+    {
         Came::Undone
     } else {
         Came::Wrong

@@ -1,6 +1,6 @@
 //! Runs over volumes in memory: a later run finds what an earlier one kept, and a volume that fails or holds what no server writes is told.
 
-use crate::failing::{failing_to_sync, one_sync_failed};
+use crate::failing::{Failing, confirming_sync, failing_to_confirm, one_sync_failed, with_failing};
 use crate::runs::{Outcome, answers, run_over, serve, with_stream};
 use js_base::List;
 use std::alloc::Global;
@@ -65,23 +65,23 @@ fn bytes_that_no_server_wrote_are_told(rt: HostRuntime) -> Result<(), Fail> {
             b"damaged place-00/f00000 at 0\n".as_slice(),
         ),
         (
-            b"JSLOG\0\0\x03\0\0\0\0\0\0\0\0\0\0\0\0\0\0".as_slice(),
-            b"unknown version 3 in place-00\n".as_slice(),
+            b"JSLOG\0\0\x04\0\0\0\0\0\0\0\0\0\0\0\0\0\0".as_slice(),
+            b"unknown version 4 in place-00\n".as_slice(),
         ),
         (
-            b"JSLOG\0\0\x02\x40\0\0\0\0\0\0\0\0\0\0\0\0\0".as_slice(),
+            b"JSLOG\0\0\x03\x40\0\0\0\0\0\0\0\0\0\0\0\x01\0".as_slice(),
             b"damaged place-00/f00000 at 8\n".as_slice(),
         ),
         (
-            b"JSLOG\0\0\x02\0\0\0\0\0\0\0\x01\x6a\x50\xfe\xef\0\0".as_slice(),
+            b"JSLOG\0\0\x03\0\0\0\0\0\0\0\x01\x9e\x6e\x28\xa7\x01\0".as_slice(),
             b"damaged place-00/f00000 at 16\n".as_slice(),
         ),
         (
-            b"JSLOG\0\0\x02\0\0\0\0\0\0\0\x01\x6a\x50\xfe\xee\x01\0\0\0\x01\xff\0\0\x01\xff\0".as_slice(),
+            b"JSLOG\0\0\x03\0\0\0\0\0\0\0\x01\x9e\x6e\x28\xa6\x01\0\0\0\x01\xff\0\0\x01\xff\0".as_slice(),
             b"damaged place-00/f00000 at 20\n".as_slice(),
         ),
         (
-            b"JSLOG\0\0\x02\0\0\0\0\0\0\0\x01\x6a\x50\xfe\xee\x01\0\0\0\x01\xff\0\0\0\xff\0".as_slice(),
+            b"JSLOG\0\0\x03\0\0\0\0\0\0\0\x01\x9e\x6e\x28\xa6\x01\0\0\0\x01\xff\0\0\0\xff\0".as_slice(),
             b"damaged place-00/f00000 at 29\n".as_slice(),
         ),
     ] {
@@ -136,7 +136,12 @@ fn volume_that_fails_is_told(rt: HostRuntime) -> Result<(), Fail> {
 fn stream_whose_volume_fails_stops_alone(rt: HostRuntime) -> Result<(), Fail> {
     let alloc = rt.alloc();
     let vols = vec![in alloc;
-        failing_to_sync(&rt, alloc, &with_stream(&rt, alloc, "A", "a", b"")?)?,
+        failing_to_confirm(
+            &rt,
+            alloc,
+            &with_stream(&rt, alloc, "A", "a", b"")?,
+            b"PUB a _I 1\r\nx\r\n"
+        )?,
         with_stream(&rt, alloc, "B", "b", b"")?,
     ]?;
     let ran = serve(
@@ -158,9 +163,11 @@ fn stream_whose_volume_fails_stops_alone(rt: HostRuntime) -> Result<(), Fail> {
 #[test]
 fn making_of_a_stream_that_fails_is_told(rt: HostRuntime) -> Result<(), Fail> {
     let alloc = rt.alloc();
-    let vols = vec![in alloc; failing_to_sync(&rt, alloc, &MemVol::new(alloc))?]?;
     let words = ["pipe", "--stream", "A", "--subject", "a"];
-    let ran = run_over(&rt, alloc, &words, b"", vols)?;
+    let made = run_over(&rt, alloc, &words, b"", vec![in alloc; MemVol::new(alloc)]?)?;
+    let last = confirming_sync(&made)?;
+    let fails = with_failing(alloc, &MemVol::new(alloc), Failing::Once, last)?;
+    let ran = run_over(&rt, alloc, &words, b"", vec![in alloc; fails]?)?;
     assert!(rt; one_sync_failed(ran.vols.as_slice()));
     assert!(rt; refuses(&ran, 11, b"20011\n"));
     Ok(())

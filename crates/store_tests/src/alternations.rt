@@ -4,8 +4,8 @@ ghost use Rattle.std.specs.Prelude.{IfOk};
 ghost use Rattle.durable_checks.specs.Storable.{IsFormed, IsStorable};
 
 use crate::store_calls::{
-    Counts, Ended, check_images, clear, count_in_image, held, opened, publish, publish_in_next,
-    with_messages,
+    Counts, Ended, check_images, clear, count_in_image, held, is_shut, opened, publish,
+    publish_in_next, with_messages,
 };
 use disk_tests::Blind;
 use effects::Durable;
@@ -13,10 +13,7 @@ use std::alloc::Global;
 use std::process::Abort;
 use std::test::Fail;
 use stream_store::{OpenFault, Store};
-use vol_disk::{Failed, MemVol, Vol};
-
-/// A log file that is no longer holds nothing.
-const CLOSED: u64 = 21;
+use vol_disk::{Failed, MemVol};
 
 /// More calls than a commit of these tests makes.
 const MANY: u64 = 60;
@@ -24,7 +21,7 @@ const MANY: u64 = 60;
 /// More calls than an opening makes with its clearing.
 const MANY_OPENING: u64 = 400;
 
-/// So many calls of the commit come before the first gate of the next log is opened.
+/// So many calls of the commit at least come before the first gate of the next log is opened.
 const BEFORE_GATE: u64 = 10;
 
 /// What a volume would hold with a message more.
@@ -99,7 +96,7 @@ fn stop_leaves_an_alternation_whole_or_not_at_all(rt: HostRuntime) -> Result<(),
 /// Whether a crash leaves a log in file 1 alone, and in file 0 nothing, where this image is picked.
 fn is_closed(vol: &MemVol, pick: u64) -> Result<bool, Fail> {
     let mut image = vol.image(pick)?;
-    Ok(image.len(0)? <= CLOSED && image.len(1)? > CLOSED)
+    Ok(is_shut(&mut image, 0)? && !is_shut(&mut image, 1)?)
 }
 
 #[test]
@@ -166,12 +163,7 @@ fn check_reopened(
 /// Whether one of the two logs holds nothing, where this image is picked.
 fn has_one_log(vol: &MemVol, pick: u64) -> Result<bool, Fail> {
     let mut image = vol.image(pick)?;
-    Ok(has_closed(&mut image, 0)? || has_closed(&mut image, 1)?)
-}
-
-/// Whether the log of this file holds nothing.
-fn has_closed(vol: &mut MemVol, file: u32) -> Result<bool, Failed> {
-    Ok(vol.len(file)? <= CLOSED)
+    Ok(is_shut(&mut image, 0)? || is_shut(&mut image, 1)?)
 }
 
 /// Checks that where each call of the opening ends it in turn.

@@ -9,6 +9,8 @@ mod block_files;
 #[cfg(test)]
 mod missing;
 #[cfg(test)]
+mod rooms;
+#[cfg(test)]
 mod store_calls;
 #[cfg(test)]
 mod stores;

@@ -29,12 +29,13 @@ fn check_missing(
     Ok(())
 }
 
-/// A volume with a stream of two messages, whose log is cut to a length, and whose first gate is closed.
+/// A volume with a stream of two messages, whose log is cut to a length, and whose first gate is closed; the other log has no bytes.
 fn without_gate(alloc: Global, to: u64) -> Result<MemVol, Fail> {
     let vol = with_messages(alloc, &[5, 5])?;
     let mut vol = Blind::over(alloc, vol.image(1)?, &[], None)?;
     vol.write_at(0, FIRST_GATE, &[0])?;
     vol.cut(0, to)?;
+    vol.cut(1, 0)?;
     Ok(vol.into_vol().image(1)?)
 }
 

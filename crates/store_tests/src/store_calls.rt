@@ -1,22 +1,26 @@
 //! What the tests of a store share: changes of a stream, each of them committed alone, to volumes of which nothing is told. Stores and volumes are made in
 //! small functions and lent to the others, since the prover writes out each place in which one may be dropped.
 
-ghost use Rattle.std.specs.Prelude.{◌≡◌, ◌∷◌, ◌+◌, ◌≤◌, [], false, length, IfOk, IsTrue};
+ghost use Rattle.std.specs.Prelude.{◌≡◌, ◌∷◌, ◌+◌, ◌≤◌, [], false, length, IfOk, IsTrue, OnOk};
 ghost use Rattle.durable_checks.specs.Storable.{IsFormed, IsStorable};
+ghost use Rattle.stream_store.specs.Committing.{batch_length};
 ghost use Rattle.op_records.specs.Allowed.{is_put, is_record};
+ghost use Rattle.op_records.specs.Spelling.{spelled};
 ghost use Rattle.store_tests.specs.Puts.{put_of};
 ghost use Rattle.stream_store.specs.Placing.{can_place};
 
 use disk_tests::Blind;
 use effects::{Durable, Effect};
-use js_base::{Blob, Moment, Name};
+use js_base::{Blob, Moment, Name, NoMemory};
 use js_json::object;
+use op_records::write_effect;
+use snapshot_bound::{held_bound, law_bounds};
 use std::alloc::Global;
 use std::process::Abort;
 use std::test::Fail;
 use stream_config::read;
 use stream_store::laws::law_placing;
-use stream_store::{CommitFault, OpenFault, Store};
+use stream_store::{CommitFault, OpenFault, RoomFault, Store};
 use vol_disk::{Failed, MemVol, Vol};
 
 /// The subject of each message.
@@ -28,10 +32,22 @@ const BESIDES_PAYLOAD: usize = 38;
 /// How many bytes a payload has at most.
 const MAX_PAYLOAD: usize = 1_048_576;
 
-/// What a commit came to.
+/// The logs are made long enough for a place that comes to so much.
+const RESERVED: u64 = 4_096;
+
+/// No log is longer.
+const MAX_LOG: u64 = 1 << 31;
+
+/// The offset of the first gate of a log, and the byte that stands there if it is open.
+const FIRST_GATE: u64 = 20;
+
+const OPEN: u8 = 1;
+
+/// What a commit came to, with the room that is made for it before.
 #[derive(Clone, Copy, Debug, PartialEq, Eq)]
 pub enum Ended {
     Done,
+    Refused,
     Failed,
 }
 
@@ -57,11 +73,37 @@ fn making(alloc: Global) -> Result<Effect, Fail>
     })
 }
 
-/// Commits a change alone.
+/// How many bytes the record of a change has, with the message that it stores.
+fn written_len(alloc: Global, change: &Effect) -> Result<usize, NoMemory>
+    requires allowed { IsTrue (is_record change.now) }
+    ensures value { IfOk result (λ count. count ≡ length (spelled change.now)) }
+{
+    let mut bytes = Vec::new(alloc);
+    write_effect(alloc, change, &mut bytes)?;
+    Ok(bytes.len())
+}
+
+/// How many bytes a log has the record of a change in at most. It has no payload.
+fn logged_at_most(alloc: Global, change: &Effect) -> Result<usize, NoMemory>
+    requires allowed { IsTrue (is_record change.now) }
+    ensures most { IfOk result (λ count. batch_length (change.now ∷ []) ≤ count) }
+{
+    let written = written_len(alloc, change)?;
+    match change {
+        Effect::PutHere { payload, .. } => Ok(written.saturating_sub(payload.len())),
+        _ => Ok(written),
+    }
+}
+
+/// Commits a change alone, if the log has room for it.
 fn commit(alloc: Global, store: &mut Store, vol: &mut Blind, change: Effect) -> Result<Ended, Fail>
     requires allowed { IsTrue (is_record change) }
     requires placed { IsTrue (can_place store.old.blocks (change ∷ [])) }
 {
+    let count = logged_at_most(alloc, &change)?;
+    if !store.has_log_room(count) {
+        return Err(Failed)?;
+    }
     match store.commit(alloc, vol, &[change]) {
         Ok(()) => Ok(Ended::Done),
         Err(CommitFault::Fault) => Ok(Ended::Failed),
@@ -107,18 +149,36 @@ fn len_of(payload: &[u8]) -> u32
 fn placed(alloc: Global, store: &mut Store, seq: u64, payload: &[u8]) -> Result<Effect, Fail>
     ensures allowed { IfOk result (λ change. IsTrue (is_record change)) }
     ensures placed { IfOk result (λ change. IsTrue (can_place store.new.blocks (change ∷ []))) }
+    ensures fits { OnOk result (length payload.now ≤ 1048576) }
 {
     if seq >= 1 << 62 || payload.len() > MAX_PAYLOAD {
         return Err(Failed)?;
     }
     law_placing();
     let len = len_of(payload);
-    let room = store.room(&[], len)?;
-    if !room {
+    let spot = store.spot_behind(&[], len)?;
+    if spot.is_none() {
         return Err(Failed)?;
     }
     let change = put(alloc, seq, payload)?;
     Ok(change)
+}
+
+/// Makes room for a message with this payload.
+fn reach(store: &mut Store, vol: &mut Blind, payload: &[u8]) -> Result<Ended, Fail>
+    requires fits { length payload.now ≤ 1048576 }
+    ensures blocks { store.new.blocks ≡ store.old.blocks }
+{
+    let spot = store.spot_behind(&[], len_of(payload))?;
+    let Some(spot) = spot else {
+        return Err(Failed)?;
+    };
+    match store.reach(vol, spot) {
+        Ok(true) => Ok(Ended::Done),
+        Ok(false) => Ok(Ended::Refused),
+        Err(RoomFault::Fault) => Ok(Ended::Failed),
+        Err(fault) => Err(fault)?,
+    }
 }
 
 /// Stores a message with the stream's next sequence, which is the number.
@@ -130,10 +190,14 @@ pub fn publish(
     payload: &[u8],
 ) -> Result<Ended, Fail> {
     let change = placed(alloc, store, seq, payload)?;
+    let reached = reach(store, vol, payload)?;
+    if reached != Ended::Done {
+        return Ok(reached);
+    }
     commit(alloc, store, vol, change)
 }
 
-/// Commits a change alone, in the other log, which begins with all of this.
+/// Commits a change alone, in the other log, which begins with all of this and is long enough for it.
 fn alternate(
     alloc: Global,
     store: &mut Store,
@@ -146,7 +210,12 @@ fn alternate(
     requires formed { IsFormed next.now }
     requires storable { IsStorable next.now }
 {
-    match store.alternate(alloc, vol, &[change], next) {
+    law_bounds();
+    let bound = held_bound(alloc, next)?;
+    if bound > MAX_LOG || !store.is_reserved(bound) {
+        return Err(Failed)?;
+    }
+    match store.alternate(alloc, vol, &[change], next, bound) {
         Ok(()) => Ok(Ended::Done),
         Err(CommitFault::Fault) => Ok(Ended::Failed),
         Err(fault) => Err(fault)?,
@@ -166,6 +235,10 @@ pub fn publish_in_next(
     requires storable { IsStorable next.now }
 {
     let change = placed(alloc, store, seq, payload)?;
+    let reached = reach(store, vol, payload)?;
+    if reached != Ended::Done {
+        return Ok(reached);
+    }
     alternate(alloc, store, vol, change, next)
 }
 
@@ -224,9 +297,19 @@ pub fn drop_stream(alloc: Global, store: &mut Store, vol: &mut Blind) -> Result<
     commit(alloc, store, vol, Effect::DropStream)
 }
 
-/// The store of a volume.
+/// Makes the logs long enough for a place that comes to so much.
+pub fn reserve(store: &mut Store, vol: &mut Blind, count: u64) -> Result<Ended, Fail> {
+    match store.reserve(vol, count) {
+        Ok(true) => Ok(Ended::Done),
+        Ok(false) => Ok(Ended::Refused),
+        Err(Failed) => Ok(Ended::Failed),
+    }
+}
+
+/// The store of a volume, whose logs have some room.
 fn store_of(alloc: Global, vol: &mut Blind) -> Result<Store, Fail> {
-    let (store, _) = Store::open(alloc, vol)?;
+    let (mut store, _) = Store::open(alloc, vol)?;
+    reserve(&mut store, vol, RESERVED)?;
     Ok(store)
 }
 
@@ -283,11 +366,16 @@ fn fill(alloc: Global, store: &mut Store, vol: &mut Blind, sizes: &[usize]) -> R
     Ok(())
 }
 
-/// A store and its volume, with a stream that has messages of these many bytes.
-pub fn filled(alloc: Global, sizes: &[usize]) -> Result<(Store, Blind), Fail> {
-    let (mut store, mut vol) = opened(alloc, MemVol::new(alloc), &[], None)?;
+/// The store of a volume, with a stream that has messages of these many bytes.
+pub fn filled_in(alloc: Global, vol: MemVol, sizes: &[usize]) -> Result<(Store, Blind), Fail> {
+    let (mut store, mut vol) = opened(alloc, vol, &[], None)?;
     fill(alloc, &mut store, &mut vol, sizes)?;
     Ok((store, vol))
+}
+
+/// A store and its volume, with a stream that has messages of these many bytes.
+pub fn filled(alloc: Global, sizes: &[usize]) -> Result<(Store, Blind), Fail> {
+    filled_in(alloc, MemVol::new(alloc), sizes)
 }
 
 /// A volume with such a stream.
@@ -300,6 +388,16 @@ pub fn with_messages(alloc: Global, sizes: &[usize]) -> Result<MemVol, Fail> {
 pub fn with_two(alloc: Global, failing: &[u64], stop: Option<u64>) -> Result<(Store, Blind), Fail> {
     let vol = with_messages(alloc, &[5, 5])?;
     opened(alloc, vol, failing, stop)
+}
+
+/// Whether no batch is open in the log of a file.
+pub fn is_shut(vol: &mut MemVol, file: u32) -> Result<bool, Failed> {
+    if vol.len(file)? <= FIRST_GATE {
+        return Ok(true);
+    }
+    let mut gate = [0];
+    vol.read_at(file, FIRST_GATE, &mut gate)?;
+    Ok(gate != [OPEN])
 }
 
 /// How many messages a stream has, or `None` if there is none.

@@ -3,7 +3,7 @@
 ghost use Rattle.std.specs.Prelude.{IfOk};
 ghost use Rattle.durable_checks.specs.Storable.{IsFormed, IsStorable};
 
-use crate::store_calls::{held, make_stream, opened, update, update_in_next};
+use crate::store_calls::{held, is_shut, make_stream, opened, reserve, update, update_in_next};
 use disk_tests::Blind;
 use effects::Durable;
 use js_base::NoMemory;
@@ -11,10 +11,10 @@ use std::alloc::Global;
 use std::process::Abort;
 use std::test::Fail;
 use stream_store::Store;
-use vol_disk::{Failed, MemVol, Vol};
+use vol_disk::{Failed, MemVol};
 
 /// How many updates there are.
-const UPDATES: u64 = 68;
+const UPDATES: u64 = 260;
 
 /// How many subjects a configuration has, and how long each of them is.
 const SUBJECTS: u64 = 256;
@@ -24,8 +24,11 @@ const SUBJECT_LEN: usize = 1_024;
 /// About how many bytes an update takes in a log.
 const UPDATE_LEN: usize = 264_000;
 
-/// A log file that is no longer holds nothing.
-const CLOSED: u64 = 21;
+/// What the snapshot of such a stream comes to at most.
+const BOUND: u64 = 265_000;
+
+/// The logs are made long enough for a place that comes to so much, which is more than a log of these updates gets.
+const RESERVED: u64 = 1 << 21;
 
 /// Adds a subject of a configuration, by its number.
 fn add_subject(text: &mut Vec<u8>, letter: u8, number: u64) -> Result<(), NoMemory> {
@@ -65,7 +68,7 @@ fn made(alloc: Global) -> Result<MemVol, Fail> {
 /// Makes the updates from this number on, until one more would make the log too long. Tells the number of that.
 fn fill_log(alloc: Global, store: &mut Store, vol: &mut Blind, from: u64) -> Result<u64, Fail> {
     for number in from..UPDATES {
-        if store.is_long(UPDATE_LEN) {
+        if store.is_long(UPDATE_LEN, BOUND) {
             return Ok(number);
         }
         update(alloc, store, vol, text_of(alloc, number)?.as_slice())?;
@@ -76,6 +79,7 @@ fn fill_log(alloc: Global, store: &mut Store, vol: &mut Blind, from: u64) -> Res
 /// The volume with as many updates as its log may have.
 fn filled(alloc: Global, vol: MemVol, from: u64) -> Result<(MemVol, u64), Fail> {
     let (mut store, mut vol) = opened(alloc, vol, &[], None)?;
+    reserve(&mut store, &mut vol, RESERVED)?;
     let number = fill_log(alloc, &mut store, &mut vol, from)?;
     Ok((vol.into_vol(), number))
 }
@@ -117,7 +121,7 @@ fn check_log(rt: &impl Abort, alloc: Global, vol: &MemVol, generation: u64) -> R
     let mut image = vol.image(1)?;
     let other = if generation % 2 == 0 { 0 } else { 1 };
     assert!(rt; is_at(alloc, &mut image, generation)?, "{generation}");
-    assert!(rt; image.len(other)? <= CLOSED, "{generation}");
+    assert!(rt; is_shut(&mut image, other)?, "{generation}");
     Ok(())
 }
 
@@ -146,6 +150,6 @@ fn check_updates(rt: &impl Abort, alloc: Global) -> Result<u64, Fail> {
 #[test]
 fn updates_alternate_between_the_logs(rt: HostRuntime) -> Result<(), Fail> {
     let logs = check_updates(&rt, rt.alloc())?;
-    assert!(rt; 15 < logs && logs < 20, "{logs}");
+    assert!(rt; 60 < logs && logs < 70, "{logs}");
     Ok(())
 }

@@ -24,8 +24,6 @@ pub enum Deed {
     MakeConsumer,
     Publish,
     PublishWithId,
-    /// A message whose id is 256 bytes long, and another one for each number.
-    PublishAs(u16),
     /// One message is pulled, and delivered then.
     Deliver,
     /// The first message is acknowledged.
@@ -60,17 +58,6 @@ pub fn publish_with_id(alloc: Global) -> Result<What, NoMemory>
     ensures asked { IfOk result IsAsked }
 {
     publish_under(alloc, b"k1")
-}
-
-/// A message whose id begins with a number, and is 256 bytes long.
-fn publish_as(alloc: Global, number: u16) -> Result<What, NoMemory>
-    ensures asked { IfOk result IsAsked }
-{
-    let [high, low] = number.to_be_bytes();
-    let mut id = [0u8; 256];
-    id[0] = high;
-    id[1] = low;
-    publish_under(alloc, &id)
 }
 
 /// The stream is to keep only its last message.
@@ -133,7 +120,6 @@ pub fn what_of(alloc: Global, deed: Deed) -> Result<What, NoMemory>
         Deed::MakeConsumer => consumer(alloc, b"W", None, None),
         Deed::Publish => publish(alloc, b"hello"),
         Deed::PublishWithId => publish_with_id(alloc),
-        Deed::PublishAs(number) => publish_as(alloc, number),
         Deed::Deliver => pull(alloc, b"W", ONE),
         Deed::Acknowledge => ack(alloc, b"W", 1, AckKind::Ack),
         Deed::Update => update(alloc),

@@ -31,6 +31,8 @@ pub struct Told {
     consumer: Option<Info>,
     /// The sequence of the message that has the id already.
     id: Option<u64>,
+    /// The number of a refusal.
+    refusal: Option<u32>,
 }
 
 impl Told {
@@ -38,6 +40,12 @@ impl Told {
     pub fn messages(&self) -> Option<u64> {
         let stream = self.stream?;
         Some(stream.messages)
+    }
+
+    /// The last sequence of its stream, if there is one.
+    pub fn last(&self) -> Option<u64> {
+        let stream = self.stream?;
+        Some(stream.last)
     }
 
     fn of(reply: &Reply) -> Told {
@@ -59,10 +67,15 @@ impl Told {
             Reply::Duplicate(seq) => Some(*seq),
             _ => None,
         };
+        let refusal = match reply {
+            Reply::Refused(error) => Some(error.err_code),
+            _ => None,
+        };
         Told {
             stream,
             consumer,
             id,
+            refusal,
         }
     }
 }
@@ -124,6 +137,7 @@ impl Kept {
         requires proper { IsTrue (is_proper event.now) }
         requires told { IsTold event.now.what }
     {
+        self.place.prepare(&event.what)?;
         match self.place.step(event, self.now, &mut self.outs) {
             Ok(reply) => {
                 let told = Told::of(&reply);
@@ -147,15 +161,21 @@ impl Kept {
         told
     }
 
-    /// Does it. What was sent before is forgotten.
-    pub fn act(&mut self, deed: Deed) -> Result<(), Undone> {
+    /// Does it, and tells the number of its refusal, if it was refused. What was sent before is forgotten.
+    pub fn try_to(&mut self, deed: Deed) -> Result<Option<u32>, Undone> {
         self.outs = List::new(self.alloc);
         let what = what_of(self.alloc, deed)?;
-        self.ask(what)?;
+        let told = self.ask(what)?;
         if deed == Deed::Deliver {
             self.place
                 .deliver_one(self.now, &self.nobody, &mut self.outs)?;
         }
+        Ok(told.refusal)
+    }
+
+    /// Does it, whether or not it is refused.
+    pub fn act(&mut self, deed: Deed) -> Result<(), Undone> {
+        self.try_to(deed)?;
         Ok(())
     }
 
@@ -182,6 +202,7 @@ impl Kept {
             stream,
             consumer,
             id,
+            refusal: None,
         })
     }
 

@@ -8,6 +8,9 @@ use std::process::Abort;
 use std::test::Fail;
 use vol_disk::{Deed as VolDeed, MemVol};
 
+/// By so many bytes files grow here: in each of them there is room for all of a test then, so that only commits sync the logs.
+const CHUNK: u32 = 1 << 20;
+
 /// How many syncs there are in a commit.
 const SYNCS: usize = 2;
 
@@ -95,17 +98,10 @@ fn carry_out(kept: &mut Kept, script: &Script<'_>) -> Result<(), Fail> {
 
 /// A place on a volume of its own.
 fn opened(alloc: Global) -> Result<Kept, Fail> {
-    match Kept::open(alloc, MemVol::new(alloc)) {
+    match Kept::open(alloc, MemVol::new(alloc).with_chunk(CHUNK)) {
         Ok(kept) => Ok(kept),
         Err((fault, _)) => Err(fault.into()),
     }
-}
-
-/// A place on a volume of its own, with the stream.
-pub fn made(alloc: Global) -> Result<Kept, Fail> {
-    let mut kept = opened(alloc)?;
-    take_steps(&mut kept, &MADE)?;
-    Ok(kept)
 }
 
 /// The volume of a place to which that was done.
