@@ -113,7 +113,7 @@ class Volume:
     def write(self, batches):
         """Writes the log, and returns how long it and the blocks are."""
         with open(f"{self.place}/f00000", "wb") as log:
-            title = b"JSLOG\0\0\2" + number(1)
+            title = b"JSLOG\0\0\3" + number(1)
             log.write(title + struct.pack(">I", crc32c(title)) + batch(b"\x20" + number(0)))
             log.writelines(batches)
             log.write(b"\0")

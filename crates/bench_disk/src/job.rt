@@ -13,7 +13,11 @@ pub(crate) enum Job {
     Store,
     /// Opens or begins a log, and appends so many batches of so many bytes.
     Append { batches: u64, size: u32 },
-    /// Writes so many pieces of so many bytes behind each other, and syncs nothing.
+    /// Makes room of one chunk in each of so many files, until there is none.
+    Room { files: u32 },
+    /// Cuts so many files to nothing.
+    Clear { files: u32 },
+    /// Writes so many pieces of so many bytes over the begin of the file, and syncs nothing.
     Write { batches: u64, size: u32 },
 }
 
@@ -37,6 +41,12 @@ impl Job {
             "append" => Some(Job::Append {
                 batches: number(count)?,
                 size: size(bytes)?,
+            }),
+            "room" => Some(Job::Room {
+                files: size(count)?,
+            }),
+            "clear" => Some(Job::Clear {
+                files: size(count)?,
             }),
             "write" => Some(Job::Write {
                 batches: number(count)?,
